@@ -1,0 +1,16 @@
+-- The laws of what the readers accept and refuse. Read in this order.
+pub mod Bytes
+pub mod Tells
+pub mod Chain
+pub mod Frame
+pub mod Decides
+pub mod WhenRule
+pub mod RuleRecord
+pub mod Entries
+pub mod Rules
+pub mod TagRows
+pub mod Fits
+pub mod Trees
+pub mod WhenReport
+pub mod ReportBytes
+pub mod Elements

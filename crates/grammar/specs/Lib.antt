@@ -1,0 +1,6 @@
+-- What the readers accept and refuse, without a cursor. Read in this order.
+pub mod Bytes
+pub mod When
+pub mod Rules
+pub mod Reports
+pub mod Legal

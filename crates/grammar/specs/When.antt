@@ -1,0 +1,102 @@
+-- The rows of document 01's table of numbers as propositions, for the laws that say when exactly each number is given, and where.
+-- Laws: proofs/WhenRule.antt, proofs/WhenReport.antt. Assumes nothing.
+use Prim.Native.Nat.{ℕ, _+_, _≤_, _<_}
+use mathlib.Core.Path.{_≡_}
+use mathlib.Core.Logic.{_⊎_}
+use mathlib.Core.List.{List}
+use lib.ListN.{length}
+use Rattle.records.specs.Bytes.{numberAt}
+use Rattle.records.specs.Frame.{kindAt, startOf}
+use Rattle.records.specs.Kinds.{rowOf}
+use Rattle.records.specs.Report.{reportLength, tagAt, tagsBefore, reportFault}
+use Rattle.records.specs.Rule.{entryAt}
+use Rattle.records.specs.Tags.{Tag, opens, closes, depth, opened}
+use Rattle.records.specs.declared.kind.Holds.the-variants.{Label, Entries}
+use Rattle.records.specs.declared.kind.Row.{Row}
+use Rattle.records.specs.declared.rule.Entry.{Entry}
+
+-- Rows 1 and 5 do not apply: the string has 1 byte or more, and not more than `most`.
+pub record Sized (most : ℕ) (s : List ℕ) : Type 0 where
+  pub some : 1 ≤ length s
+  pub few : length s ≤ most
+
+-- Rows 2 and 6: the record at an offset has fewer than 4 bytes left, an unknown kind, a wrong length for its kind, or runs past the
+-- end. `lengths` gives each kind's length, 0 where there is no such kind.
+pub data Faulty (lengths : ℕ → ℕ) (s : List ℕ) (at : ℕ) : Type 0 where
+  few-left : length s < at + 4 → Faulty lengths s at
+  unknown-kind : lengths (kindAt s at) ≡ 0 → Faulty lengths s at
+  wrong-length : (numberAt s at ≡ lengths (kindAt s at) → ⊥) → Faulty lengths s at
+  past-end : length s < at + 2 + numberAt s at → Faulty lengths s at
+
+-- The length of a rule record of each kind; 0 for a number that is no kind.
+abbrev pub ruleLength : ℕ → ℕ
+ruleLength kind = rowOf kind .length
+
+-- A label outside 1..999.
+abbrev pub Outside : ℕ → Type 0
+Outside label = (label < 1) ⊎ (999 < label)
+
+-- Row 3: an entry of this row has an entry number that is not below its own, or a label outside 1..999.
+pub data Misdirected (row : Row) (own : ℕ) (e : Entry) : Type 0 where
+  bad-label : row .holds ≡ Label → Outside (e .a) → Misdirected row own e
+  bad-a : row .holds ≡ Entries → own ≤ e .a → Misdirected row own e
+  bad-b : row .holds ≡ Entries → 2 ≤ row .arguments → own ≤ e .b → Misdirected row own e
+
+-- Row 3 at a record, as the record of entry `own`: the entry that it holds is misdirected.
+abbrev pub MisdirectedAt : List ℕ → ℕ → ℕ → Type 0
+MisdirectedAt s own at = Misdirected (rowOf (kindAt s at)) own (entryAt s at)
+
+-- Record i is reached: it begins at p, bytes stand there, and no record before it has a fault.
+pub record Reached (fault : ℕ → ℕ) (s : List ℕ) (i p : ℕ) : Type 0 where
+  pub begins : startOf s i ≡ p
+  pub there : p < length s
+  pub clean : (j : ℕ) → j < i → fault j ≡ 0
+
+-- The string ends between records, with i of them and no fault.
+pub record Ended (fault : ℕ → ℕ) (s : List ℕ) (i : ℕ) : Type 0 where
+  pub at-end : startOf s i ≡ length s
+  pub clean : (j : ℕ) → j < i → fault j ≡ 0
+
+-- Row 6 at a tag: an opening with a label outside 1..999.
+pub data Mislabelled : Tag → Type 0 where
+  bad-tag : {label : ℕ} → Outside label → Mislabelled (opens label)
+
+-- Row 7 at a tag: a closing with nothing open, or an opening after the root closed, which is where elements have been opened and
+-- none is open.
+pub data Unbalanced (depth elements : ℕ) : Tag → Type 0 where
+  nothing-open : depth ≡ 0 → Unbalanced depth elements closes
+  root-closed : {label : ℕ} → depth ≡ 0 → 0 < elements → Unbalanced depth elements (opens label)
+
+-- Row 8 at a tag: an opening at level 64, or of a 4,097th element.
+pub data TooMuch (depth elements : ℕ) : Tag → Type 0 where
+  too-deep : {label : ℕ} → 64 ≤ depth → TooMuch depth elements (opens label)
+  too-many : {label : ℕ} → 4096 ≤ elements → TooMuch depth elements (opens label)
+
+-- Row 6 at the record that begins at an offset: it is faulty as in row 2, or its label is outside 1..999.
+abbrev pub Row6 : List ℕ → ℕ → Type 0
+Row6 s at = Faulty reportLength s at ⊎ Mislabelled (tagAt s at)
+
+-- Row 7 at a record before which so many elements are open and so many have been opened: row 6 does not apply, and it closes with
+-- nothing open or opens after the root closed.
+pub record Row7 (s : List ℕ) (at depth elements : ℕ) : Type 0 where
+  pub not-6 : Row6 s at → ⊥
+  pub unbalanced : Unbalanced depth elements (tagAt s at)
+
+-- Row 8 at a record: rows 6 and 7 do not apply, and it opens at level 64, or a 4,097th element.
+pub record Row8 (s : List ℕ) (at depth elements : ℕ) : Type 0 where
+  pub not-6 : Row6 s at → ⊥
+  pub not-7 : Unbalanced depth elements (tagAt s at) → ⊥
+  pub too-much : TooMuch depth elements (tagAt s at)
+
+-- A row applies at the first record with a fault, which begins at p: `row` takes where the record begins, how many elements are open
+-- before it, and how many have been opened.
+abbrev pub AtFirst : List ℕ → ℕ → (ℕ → ℕ → ℕ → Type 0) → Type 0
+AtFirst s p row = (i : ℕ) × Reached (reportFault s) s i p × row p (depth (tagsBefore s i)) (opened (tagsBefore s i))
+
+-- Row 7 at the end: no record has a fault, and the report ends with an element open; the place is its length.
+abbrev pub EndsOpen : List ℕ → ℕ → Type 0
+EndsOpen s p = (i : ℕ) × Ended (reportFault s) s i × (0 < depth (tagsBefore s i)) × (p ≡ length s)
+
+-- Row 0: no record has a fault, and the report ends with no element open and n opened.
+abbrev pub EndsWell : List ℕ → ℕ → Type 0
+EndsWell s n = (i : ℕ) × Ended (reportFault s) s i × (depth (tagsBefore s i) ≡ 0) × (opened (tagsBefore s i) ≡ n)

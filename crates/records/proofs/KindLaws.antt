@@ -1,0 +1,37 @@
+-- Laws of the table of kinds.
+-- Assumes nothing.
+use Prim.Native.Nat.{ℕ, zero, suc, _+_, _≤_, _<_}
+use native.Mathlib.Omega.{arith}
+use native.Mathlib.Nat.{eq-or-lt-of-le}
+use borrow.Author.Tests.{le-leb, lt-leb, ne-eqb}
+use lib.ListN.{length, List·getD-eq-default}
+use mathlib.Core.Path.{_≡_, refl, subst}
+use mathlib.Core.Bool.{true, false}
+use mathlib.Core.Logic.{⊎-elim}
+use Rattle.records.specs.Kinds.{table, noKind, rowOf, looksBack}
+
+-- P holds at n numbers from lo on: what a range of a match, or a whole table, is shown by.
+abbrev pub Each : (ℕ → Type 0) → ℕ → ℕ → Type 0
+Each P lo zero = Unit
+Each P lo (suc n) = P lo × Each P (lo + 1) n
+
+-- Then it holds at each of them.
+pub each : (P : ℕ → Type 0) (lo n : ℕ) → Each P lo n → (k : ℕ) → lo ≤ k → k < lo + n → P k
+each P lo zero a k l h = absurd (omega arith)
+each P lo (suc n) a k l h =
+    ⊎-elim (λ e. subst P e (a .0)) (λ g. each P (lo + 1) n (a .1) k (omega arith) (omega arith)) (eq-or-lt-of-le l)
+
+-- Past the table there is no kind.
+pub row-none : (k : ℕ) → 14 < k → rowOf k ≡ noKind
+unfolding rowOf
+row-none k h = List·getD-eq-default table noKind {n = k} (omega arith)
+
+-- Kinds 1 to 5 look back.
+pub back-low : (k : ℕ) → 1 ≤ k → k ≤ 5 → looksBack k ≡ true
+unfolding looksBack
+back-low k l h = rw (le-leb 1 k l, le-leb k 5 h)
+
+-- Past 5, what is not 7, 9, 11 or 13 looks ahead; and so does 0.
+pub ahead-high : (k : ℕ) → 5 < k → (k ≡ 7 → ⊥) → (k ≡ 9 → ⊥) → (k ≡ 11 → ⊥) → (k ≡ 13 → ⊥) → looksBack k ≡ false
+unfolding looksBack
+ahead-high k h a b c d = rw (le-leb 1 k (omega arith), lt-leb k 5 h, ne-eqb k 7 a, ne-eqb k 9 b, ne-eqb k 11 c, ne-eqb k 13 d)

@@ -1,0 +1,117 @@
+-- Laws of the rule reader's definitions: one for each way through a record's tests, and the reader's progress.
+-- Assumes nothing.
+use Prim.Native.Nat.{ℕ, zero, suc, _+_, _*_, _≤_, _<_}
+use native.Mathlib.Omega.{arith}
+use borrow.Author.Tests.{lt-ltb, le-ltb, le-leb, lt-leb, leb-false, eq-eqb, ne-eqb}
+use mathlib.Core.Path.{_≡_, refl, sym, ap, subst, _∙_}
+use mathlib.Core.Bool.{Bool, true, false, cond, not, _||_}
+use mathlib.Core.List.{List}
+use lib.Dec.{leb, ltb, eqb}
+use lib.ListN.{length}
+use Rattle.records.specs.Bytes.{numberAt}
+use Rattle.records.specs.First.{first}
+use Rattle.records.specs.Frame.{frameOf, kindAt, broken, nextOf, startOf}
+use Rattle.records.specs.Kinds.{rowOf}
+use Rattle.records.specs.Rule.{entryOf, entryAt, misdirected, ruleFault, ruleFaults, ruleStops, ruleEnd, ruleAnswer}
+use Rattle.records.specs.declared.answer.Answer.{Answer}
+use Rattle.records.specs.declared.answer.Answer.the-variants.{Accepted, Refused}
+use Rattle.records.specs.declared.frame.Frame.{Frame}
+use Rattle.records.specs.declared.frame.Frame.the-variants.{Whole, Cut, Garbled}
+use Rattle.records.specs.declared.kind.Row.{Row}
+use Rattle.records.specs.declared.rule.Entry.{Entry}
+use Rattle.records.proofs.Reading.{Mid, mid-turn, mid-ended, mid-faulty}
+use Rattle.records.proofs.FrameLaws.{Stands, frame-few, whole-stands}
+use Rattle.records.proofs.Rows.{row-measured}
+
+-- The entry read by the row of its kind is the entry.
+pub entry-is : (s : List ℕ) (at k : ℕ) (row : Row) (e : Entry) → k ≡ kindAt s at → row ≡ rowOf k → e ≡ entryOf row s at → e ≡ entryAt s at
+unfolding entryAt
+entry-is s at k row e p q r = r ∙ ap (λ (x : Row). entryOf x s at) (q ∙ ap rowOf p)
+
+-- A whole record has room for the numbers of its body.
+pub stands-room : (s : List ℕ) (at k : ℕ) → Stands s at (rowOf k .length) → at + 4 + 2 * rowOf k .arguments ≤ length s
+stands-room s at k st = omega (arith, st .ends, row-measured k (st .known) .long)
+
+-- The record at an offset, as entry `own`, with the row that its kind has.
+module _ (s : List ℕ) (own at : ℕ) where
+  -- A 65th entry begins.
+  pub rule-full : 64 ≤ own → 4 ≡ ruleFault s own at
+  unfolding ruleFault
+  rule-full h = simp (le-leb 64 own h)
+
+  -- Fewer than 4 bytes left.
+  pub rule-few : own < 64 → length s < at + 4 → 2 ≡ ruleFault s own at
+  unfolding ruleFault
+  rule-few l h = simp (lt-leb 64 own l, frame-few s at (rowOf (kindAt s at) .length) h)
+
+  module _ (row : Row) (is : row ≡ rowOf (kindAt s at)) where
+    frame-is : (f : Frame) → f ≡ frameOf s at (row .length) → frameOf s at (rowOf (kindAt s at) .length) ≡ f
+    frame-is f e = ap (λ (r : Row). frameOf s at (r .length)) (sym is) ∙ sym e
+
+    -- The record is not whole.
+    pub rule-broken : own < 64 → (f : Frame) → f ≡ frameOf s at (row .length) → broken f ≡ true → 2 ≡ ruleFault s own at
+    unfolding ruleFault
+    rule-broken l f e b = simp (lt-leb 64 own l, frame-is f e, b)
+
+    -- The record is whole: what its entry is decides.
+    pub rule-whole : own < 64 → Whole ≡ frameOf s at (row .length)
+        → cond (misdirected (row .holds) (row .arguments) own (entryOf row s at)) 3 0 ≡ ruleFault s own at
+    unfolding ruleFault entryAt
+    rule-whole l e = rw (is, lt-leb 64 own l, ← (rw is at e))
+
+    pub rule-room : Whole ≡ frameOf s at (row .length) → at + 4 + 2 * row .arguments ≤ length s
+    rule-room e = rw is (stands-room s at (kindAt s at) (whole-stands s at (rowOf (kindAt s at) .length) (sym (rw is at e))))
+
+-- A record with no fault is whole and is not a 65th entry.
+pub rule-sound : (s : List ℕ) (own at : ℕ) → ruleFault s own at ≡ 0 → (own < 64) × Stands s at (rowOf (kindAt s at) .length)
+unfolding ruleFault
+rule-sound s own at e =
+    go (leb 64 own) (frameOf s at (rowOf (kindAt s at) .length)) (misdirected (rowOf (kindAt s at) .holds) (rowOf (kindAt s at) .arguments) own (entryAt s at)) refl refl e
+  where
+    go : (full : Bool) (f : Frame) (wrong : Bool) → leb 64 own ≡ full → frameOf s at (rowOf (kindAt s at) .length) ≡ f
+        → _≡_ {A = ℕ} (cond full 4 (cond (broken f) 2 (cond wrong 3 0))) 0 → (own < 64) × Stands s at (rowOf (kindAt s at) .length)
+    go true f wrong p q z = absurd (omega arith)
+    go false Whole wrong p q z = (leb-false 64 own p, whole-stands s at (rowOf (kindAt s at) .length) q)
+    go false Cut wrong p q z = absurd (omega arith)
+    go false Garbled wrong p q z = absurd (omega arith)
+
+-- The turns of the reader's loop.
+module _ (s : List ℕ) where
+  abbrev pub RuleMid : ℕ → ℕ → Type 0
+  RuleMid i at = Mid s (ruleFaults s) i at
+
+  -- The number that the record in hand gets is the number of record i.
+  faults-is : {i at : ℕ} → RuleMid i at → ruleFaults s i ≡ ruleFault s i at
+  faults-is {i} {at} m = ap (λ (x : ℕ). ruleFault s i x) (m .begins)
+
+  pub rule-next : {i at : ℕ} → RuleMid i at → ruleFault s i at ≡ 0 → at + 2 + numberAt s at ≤ length s
+  rule-next {i} {at} m f = let r = rule-sound s i at f .1 in omega (arith, r .ends, r .long)
+
+  pub rule-turn : {i at : ℕ} → RuleMid i at → (at ≡ length s → ⊥) → ruleFault s i at ≡ 0 → RuleMid (i + 1) (at + 2 + numberAt s at)
+  rule-turn {i} {at} m ne f = mid-turn s (ruleFaults s) m ne (faults-is m ∙ f) (rule-next m f)
+
+  module _ (some : 1 ≤ length s) (few : length s ≤ 512) where
+    answer-is : (i : ℕ) → first (ruleStops s) 64 ≡ i → ruleAnswer s ≡ ruleEnd s i
+    unfolding ruleAnswer
+    answer-is i e = rw (le-ltb (length s) 1 some, le-ltb 512 (length s) few, e)
+
+    pub rule-accepts : {i at : ℕ} → RuleMid i at → i ≤ 64 → at ≡ length s → Accepted i ≡ ruleAnswer s
+    unfolding ruleStops ruleEnd
+    rule-accepts {i} {at} m l e = sym (answer-is i (mid-ended s (ruleFaults s) m e 64 l) ∙ rw (m .begins, eq-eqb at (length s) e))
+
+    pub rule-refuses : {i at : ℕ} → RuleMid i at → i ≤ 64 → (at ≡ length s → ⊥) → (ruleFault s i at ≡ 0 → ⊥)
+        → Refused (ruleFault s i at) at ≡ ruleAnswer s
+    unfolding ruleStops ruleEnd
+    rule-refuses {i} {at} m l ne f =
+        sym
+        (answer-is i (mid-faulty s (ruleFaults s) m ne (λ z. f (sym (faults-is m) ∙ z)) 64 l)
+        ∙ rw (m .begins, ne-eqb at (length s) ne))
+
+-- Row 1: no byte, or too many.
+pub rule-empty : (s : List ℕ) → length s < 1 → Refused 1 0 ≡ ruleAnswer s
+unfolding ruleAnswer
+rule-empty s h = simp (lt-ltb (length s) 1 h)
+
+pub rule-long : (s : List ℕ) → 512 < length s → Refused 1 0 ≡ ruleAnswer s
+unfolding ruleAnswer
+rule-long s h = simp (le-ltb (length s) 1 (omega arith), lt-ltb 512 (length s) h)

@@ -1,0 +1,21 @@
+-- Assumes nothing.
+use native.Mathlib.Omega.{arith}
+use mathlib.Core.Path.{_≡_, refl}
+use borrow.Author.Needs.{needs}
+use Rattle.records.proofs.rule.argument.Statement.{statement}
+use Rattle.records.proofs.rule.argument.Tie as tie
+use Rattle.records.proofs.rule.argument.Reads as reads
+use Rattle.records.proofs.rule.argument.Lts as lts
+use Rattle.records.proofs.number.number_at.Reads as number-at-reads
+
+number-at-requires : tie.Need-number-at-requires
+number-at-requires c κs = c .before .before .pre (c .if1 .taken)
+
+returns : tie.Need-returns
+returns c = rw (c .before .if1 .taken) (c .number-at .ensures)
+
+returns-2 : tie.Need-returns-2
+returns-2 c = rw (c .if1 .left) (refl, omega arith)
+
+pub argument-spec : {M : Type 1} → statement M
+argument-spec = tie.close (tie.spec number-at-requires returns returns-2)

@@ -1,0 +1,10 @@
+-- The readers' specification. Read in this order.
+pub mod Bytes
+pub mod Kinds
+pub mod Frame
+pub mod First
+pub mod Answer
+pub mod Tags
+pub mod Rule
+pub mod Report
+pub mod Tables

@@ -1,0 +1,59 @@
+-- The rule reader: which number a rule gets, and where. Document 01, "Numbers given back", rows 0 to 4, and its order.
+use Prim.Native.Nat.{ℕ, _+_}
+use mathlib.Core.Bool.{Bool, false, cond, _||_, _&&_}
+use mathlib.Core.List.{List}
+use lib.Dec.{leb, ltb, eqb}
+use lib.ListN.{length}
+use Rattle.records.specs.Bytes.{numberAt}
+use Rattle.records.specs.First.{first}
+use Rattle.records.specs.Frame.{frameOf, kindAt, broken, startOf, stopsAt}
+use Rattle.records.specs.Kinds.{rowOf}
+use Rattle.records.specs.Tags.{outside}
+use Rattle.records.specs.declared.answer.Answer.{Answer}
+use Rattle.records.specs.declared.answer.Answer.the-variants.{Accepted, Refused}
+use Rattle.records.specs.declared.kind.Holds.{Holds}
+use Rattle.records.specs.declared.kind.Holds.the-variants.{Nothing, Label, Entries}
+use Rattle.records.specs.declared.kind.Row.{Row}
+use Rattle.records.specs.declared.rule.Entry.{Entry}
+
+-- The entry whose record, of this row, stands at an offset: its kind, and the numbers of its body, 0 where it has none.
+unfoldable pub entryOf : Row → List ℕ → ℕ → Entry
+entryOf row s at =
+    record {
+      kind = kindAt s at;
+      a = cond (leb 1 (row .arguments)) (numberAt s (at + 4)) 0;
+      b = cond (leb 2 (row .arguments)) (numberAt s (at + 6)) 0;
+    }
+
+unfoldable pub entryAt : List ℕ → ℕ → Entry
+entryAt s at = entryOf (rowOf (kindAt s at)) s at
+
+-- Row 3: a label outside 1..999, or an entry number that is not below the entry's own. The row's number of arguments says how
+-- many entry numbers there are.
+unfoldable pub misdirected : Holds → ℕ → ℕ → Entry → Bool
+misdirected Nothing arguments own e = false
+misdirected Label arguments own e = outside (e .a)
+misdirected Entries arguments own e = leb own (e .a) || (leb 2 arguments && leb own (e .b))
+
+-- The number that the rule's record at an offset gets as entry `own`, in the order 4, 2, 3; 0 where it has no fault.
+unfoldable pub ruleFault : List ℕ → ℕ → ℕ → ℕ
+ruleFault s own at =
+    cond (leb 64 own) 4
+    (cond (broken (frameOf s at (rowOf (kindAt s at) .length))) 2
+    (cond (misdirected (rowOf (kindAt s at) .holds) (rowOf (kindAt s at) .arguments) own (entryAt s at)) 3 0))
+
+-- The number that record i gets: it is entry i.
+abbrev pub ruleFaults : List ℕ → ℕ → ℕ
+ruleFaults s i = ruleFault s i (startOf s i)
+
+-- Reading stops at record i.
+unfoldable pub ruleStops : List ℕ → ℕ → Bool
+ruleStops s i = stopsAt (ruleFaults s) s i
+
+-- What the rule is answered where reading stops at record i.
+unfoldable pub ruleEnd : List ℕ → ℕ → Answer
+ruleEnd s i = cond (eqb (startOf s i) (length s)) (Accepted i) (Refused (ruleFaults s i) (startOf s i))
+
+-- Row 1 comes first; then the first record in byte order that is at fault decides, and where none is the rule is accepted.
+unfoldable pub ruleAnswer : List ℕ → Answer
+ruleAnswer s = cond (ltb (length s) 1 || ltb 512 (length s)) (Refused 1 0) (ruleEnd s (first (ruleStops s) 64))

@@ -1,0 +1,135 @@
+// The report reader.
+ghost use mathlib.Core.Path.{_≡_};
+ghost use mathlib.Core.Bool.{false, _&&_};
+ghost use Prim.Native.Nat.{_+_, _≤_, _<_};
+ghost use lib.Dec.{eqb, ltb};
+ghost use lib.ListN.{length};
+ghost use Rattle.records.specs.Frame.{kindAt};
+ghost use Rattle.records.specs.Tags.{opens, closes, tagFault};
+ghost use Rattle.records.specs.Report.{reportLength, tagAt, recordFault, endOf, reportAnswer};
+use crate::answer::Answer;
+use crate::frame::Frame;
+use crate::frame::frame_of;
+use crate::number::number_at;
+
+// The length of a report record of each kind; 0 for a number that is no kind.
+fn report_length(kind: usize) -> usize
+    ensures { λ r. ⌜ r ≡ reportLength kind ⌝ }
+{
+    match kind {
+        1..=1 => 4,
+        2..=2 => 2,
+        _ => 0,
+    }
+}
+
+// The number that an opening gets where so many elements are open and so many have been opened; 0
+// where it has no fault.
+pub fn open_fault(depth: usize, elements: usize, root_closed: bool, label: usize) -> u32
+    ensures { λ r. ⌜ r ≡ tagFault depth elements «root_closed» (opens label) ⌝ }
+{
+    if (label < 1) | (999 < label) {
+        return 6;
+    }
+    if root_closed {
+        return 7;
+    }
+    if (64 <= depth) | (4096 <= elements) {
+        return 8;
+    }
+    0
+}
+
+// The number that a closing gets where so many elements are open; what has been opened before plays
+// no part.
+pub fn close_fault(depth: usize) -> u32
+    ensures { λ r. ⌜ r ≡ tagFault depth 0 false closes ⌝ }
+{
+    if depth == 0 { 7 } else { 0 }
+}
+
+// Whether the record at an offset opens an element.
+pub(crate) fn opens_at(s: &[u8], at: usize) -> bool
+    requires { ⌜ at + 4 ≤ length (now s) ⌝ }
+    ensures { λ r. ⌜ r ≡ eqb (kindAt (now (s .entry)) at) 1 ⌝ }
+{
+    number_at(s, at + 2) == 1
+}
+
+// The number of a whole record, by its tag.
+fn tag_fault(s: &[u8], at: usize, depth: usize, elements: usize) -> u32
+    requires { ⌜ at + 4 ≤ length (now s) ⌝ }
+    requires { ⌜ (kindAt (now s) at ≡ 1 → at + 6 ≤ length (now s)) ⌝ }
+    ensures { λ r. ⌜ r ≡ tagFault depth elements (eqb depth 0 && ltb 0 elements) (tagAt (now (s .entry)) at) ⌝ }
+{
+    if opens_at(s, at) {
+        open_fault(
+            depth,
+            elements,
+            (depth == 0) & (0 < elements),
+            number_at(s, at + 4),
+        )
+    } else {
+        close_fault(depth)
+    }
+}
+
+// The number that the record at an offset gets where so many elements are open and so many have
+// been opened before it; 0 where it has no fault.
+fn record_fault(s: &[u8], at: usize, depth: usize, elements: usize) -> u32
+    requires { ⌜ at ≤ length (now s) ⌝ }
+    ensures { λ r. ⌜ r ≡ recordFault (now (s .entry)) at depth elements ⌝ }
+{
+    if s.len() - at < 4 {
+        return 6;
+    }
+    let expected = report_length(number_at(s, at + 2));
+    match frame_of(s, at, expected) {
+        Frame::Cut => 6,
+        Frame::Garbled => 6,
+        Frame::Whole => tag_fault(s, at, depth, elements),
+    }
+}
+
+// What a report of so many bytes is answered that ends here.
+fn end_of(size: usize, depth: usize, elements: usize) -> Answer
+    ensures { λ r. ⌜ r ≡ endOf size depth elements ⌝ }
+{
+    if depth == 0 {
+        Answer::Accepted(elements)
+    } else {
+        Answer::Refused(7, size)
+    }
+}
+
+// Reads a report: accepted with the number of its elements, or refused.
+pub fn read_report(report: &[u8]) -> Answer
+    ensures { λ r. ⌜ r ≡ reportAnswer (now (report .entry)) ⌝ }
+{
+    if report.len() < 1 {
+        return Answer::Refused(5, 0);
+    }
+    if 40960 < report.len() {
+        return Answer::Refused(5, 0);
+    }
+    let mut at: usize = 0;
+    let mut depth: usize = 0;
+    let mut elements: usize = 0;
+    let answer = loop {
+        if at == report.len() {
+            break end_of(report.len(), depth, elements);
+        }
+        let fault = record_fault(report, at, depth, elements);
+        if fault != 0 {
+            break Answer::Refused(fault, at);
+        }
+        if opens_at(report, at) {
+            depth = depth + 1;
+            elements = elements + 1;
+        } else {
+            depth = depth - 1;
+        }
+        at = at + 2 + number_at(report, at);
+    };
+    answer
+}

@@ -1,0 +1,110 @@
+// The rule reader.
+ghost use mathlib.Core.Path.{_≡_};
+ghost use mathlib.Core.Bool.{true, cond};
+ghost use Prim.Native.Nat.{_+_, _*_, _≤_, _<_};
+ghost use lib.ListN.{length};
+ghost use Rattle.records.specs.Bytes.{numberAt};
+ghost use Rattle.records.specs.Rule.{entryOf, misdirected, ruleFault, ruleAnswer};
+use crate::answer::Answer;
+use crate::frame::Frame;
+use crate::frame::frame_of;
+use crate::kind::Holds;
+use crate::kind::Row;
+use crate::kind::row_of;
+use crate::number::number_at;
+
+// An entry of a rule: its kind, and the numbers of its body, 0 where it has none. A label is `a`.
+pub struct Entry {
+    pub kind: usize,
+    pub a: usize,
+    pub b: usize,
+}
+
+// The number at an offset, or 0 where the body has no such number.
+pub(crate) fn argument(s: &[u8], at: usize, there: bool) -> usize
+    requires { ⌜ (there ≡ true → at + 1 < length (now s)) ⌝ }
+    ensures { λ r. ⌜ (r ≡ cond there (numberAt (now (s .entry)) at) 0) × (r < 65536) ⌝ }
+{
+    if there { number_at(s, at) } else { 0 }
+}
+
+// The entry whose record, of this row, stands at an offset.
+pub(crate) fn entry_of(row: Row, s: &[u8], at: usize) -> Entry
+    requires { ⌜ at + 4 + 2 * row .arguments ≤ length (now s) ⌝ }
+    ensures { λ r. ⌜ (r ≡ entryOf row (now (s .entry)) at) × (r .kind < 65536) × (r .a < 65536) × (r .b < 65536) ⌝ }
+{
+    let n = row.arguments;
+    Entry {
+        kind: number_at(s, at + 2),
+        a: argument(s, at + 4, 1 <= n),
+        b: argument(s, at + 6, 2 <= n),
+    }
+}
+
+// Whether an entry's numbers are not what they may be.
+fn misdirects(holds: Holds, arguments: usize, own: usize, e: Entry) -> bool
+    ensures { λ r. ⌜ r ≡ misdirected holds arguments own e ⌝ }
+{
+    match holds {
+        Holds::Nothing => false,
+        Holds::Label => (e.a < 1) | (999 < e.a),
+        Holds::Entries => (own <= e.a) | ((2 <= arguments) & (own <= e.b)),
+    }
+}
+
+// The number that an entry of this row gets at its place.
+fn entry_fault(row: Row, own: usize, e: Entry) -> u32
+    ensures { λ r. ⌜ r ≡ cond (misdirected (row .holds) (row .arguments) own e) 3 0 ⌝ }
+{
+    let holds = row.holds;
+    if misdirects(holds, row.arguments, own, e) {
+        3
+    } else {
+        0
+    }
+}
+
+// The number that the record at an offset gets as entry `own`; 0 where it has no fault.
+fn rule_fault(s: &[u8], own: usize, at: usize) -> u32
+    requires { ⌜ at ≤ length (now s) ⌝ }
+    ensures { λ r. ⌜ r ≡ ruleFault (now (s .entry)) own at ⌝ }
+{
+    if 64 <= own {
+        return 4;
+    }
+    if s.len() - at < 4 {
+        return 2;
+    }
+    let row = row_of(number_at(s, at + 2));
+    match frame_of(s, at, row.length) {
+        Frame::Cut => 2,
+        Frame::Garbled => 2,
+        Frame::Whole => entry_fault(row, own, entry_of(row, s, at)),
+    }
+}
+
+// Reads a rule: accepted with the number of its entries, or refused.
+pub fn read_rule(rule: &[u8]) -> Answer
+    ensures { λ r. ⌜ r ≡ ruleAnswer (now (rule .entry)) ⌝ }
+{
+    if rule.len() < 1 {
+        return Answer::Refused(1, 0);
+    }
+    if 512 < rule.len() {
+        return Answer::Refused(1, 0);
+    }
+    let mut at: usize = 0;
+    let mut entries: usize = 0;
+    let answer = loop {
+        if at == rule.len() {
+            break Answer::Accepted(entries);
+        }
+        let fault = rule_fault(rule, entries, at);
+        if fault != 0 {
+            break Answer::Refused(fault, at);
+        }
+        at = at + 2 + number_at(rule, at);
+        entries = entries + 1;
+    };
+    answer
+}
