@@ -12,14 +12,14 @@ use lib.Seq.{getD-at}
 use borrow.Author.Tests.{lt-leb}
 use Rattle.records.specs.Answer.{countOf}
 use Rattle.records.specs.Frame.{kindAt, startOf}
-use Rattle.records.specs.Kinds.{rowOf}
+use Rattle.records.specs.Kinds.{rowOf, ruleLength}
 use Rattle.records.specs.Rule.{entryOf, entryAt, ruleAnswer, ruleFaults}
 use Rattle.records.specs.Tables.{entriesBefore, entriesOf}
 use Rattle.records.specs.declared.answer.Answer.{Answer}
 use Rattle.records.specs.declared.answer.Answer.the-variants.{Accepted, Refused}
 use Rattle.records.specs.declared.rule.Entry.{Entry}
 use Rattle.grammar.specs.Rules.{noEntry, WellFormed}
-use Rattle.grammar.specs.When.{Sized, ruleLength, bad-label, bad-a, bad-b, Ended}
+use Rattle.grammar.specs.When.{Sized, bad-label, bad-a, bad-b, Ended}
 use Rattle.grammar.proofs.Frame.{unfaulty-sound}
 use Rattle.records.proofs.Rows.{known-range, kind-label, kind-entries}
 use Rattle.grammar.proofs.WhenRule.{fault-0-iff, rule-accepted-iff}

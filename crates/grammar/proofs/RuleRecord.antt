@@ -10,12 +10,12 @@ use lib.Dec.{leb}
 use lib.ListN.{length, take, drop, length-append}
 use Rattle.records.specs.Bytes.{numberAt}
 use Rattle.records.specs.Frame.{kindAt}
-use Rattle.records.specs.Kinds.{rowOf}
+use Rattle.records.specs.Kinds.{rowOf, ruleLength}
 use Rattle.records.specs.Rule.{entryOf, entryAt}
 use Rattle.records.specs.declared.rule.Entry.{Entry}
 use Rattle.grammar.specs.Bytes.{twoBytes, Bytes}
 use Rattle.grammar.specs.Rules.{bodyOf, recordOf, WellFormed}
-use Rattle.grammar.specs.When.{ruleLength, Misdirected}
+use Rattle.grammar.specs.When.{Misdirected}
 use Rattle.grammar.proofs.Bytes.{number-back, number-after, number-shift, number-at, bytes-back, bytes-more}
 use Rattle.grammar.proofs.Frame.{Sound}
 use Rattle.records.proofs.Rows.{row-measured}

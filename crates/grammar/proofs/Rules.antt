@@ -15,9 +15,10 @@ use Rattle.records.specs.Rule.{entryAt, ruleFault, ruleAnswer, ruleFaults}
 use Rattle.records.specs.Tables.{entriesBefore, entriesOf}
 use Rattle.records.specs.declared.answer.Answer.the-variants.{Accepted}
 use Rattle.records.specs.declared.rule.Entry.{Entry}
+use Rattle.records.specs.Kinds.{ruleLength}
 use Rattle.grammar.specs.Bytes.{Bytes}
 use Rattle.grammar.specs.Rules.{noEntry, recordOf, ruleBytes, WellFormed, RuleEntries}
-use Rattle.grammar.specs.When.{ruleLength, bad-a}
+use Rattle.grammar.specs.When.{bad-a}
 use Rattle.grammar.proofs.Entries.{before-length, before-at, entries-count, entries-few, entries-some, entry-formed}
 use Rattle.grammar.proofs.Frame.{sound-unfaulty, unfaulty-sound, start-step, start-far}
 use Rattle.grammar.proofs.RuleRecord.{record-length, read-length, entry-read, record-sound, record-directed, record-back}

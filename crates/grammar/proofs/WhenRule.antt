@@ -10,7 +10,7 @@ use lib.Dec.{leb}
 use lib.ListN.{length}
 use Rattle.records.specs.First.{first}
 use Rattle.records.specs.Frame.{frameOf, kindAt, broken, startOf}
-use Rattle.records.specs.Kinds.{rowOf}
+use Rattle.records.specs.Kinds.{rowOf, ruleLength}
 use Rattle.records.specs.Rule.{entryAt, misdirected, ruleFault, ruleStops, ruleEnd, ruleAnswer, ruleFaults}
 use Rattle.records.specs.declared.answer.Answer.{Answer}
 use Rattle.records.specs.declared.answer.Answer.the-variants.{Accepted, Refused}
@@ -18,7 +18,7 @@ use Rattle.records.specs.declared.kind.Holds.{Holds}
 use Rattle.records.specs.declared.kind.Holds.the-variants.{Nothing, Label, Entries}
 use Rattle.records.specs.declared.kind.Row.{Row}
 use Rattle.records.specs.declared.rule.Entry.{Entry}
-use Rattle.grammar.specs.When.{Sized, Faulty, ruleLength, Outside, Reached, Ended}
+use Rattle.grammar.specs.When.{Sized, Faulty, Outside, Reached, Ended}
 use Rattle.grammar.specs.When.{Misdirected, bad-label, bad-a, bad-b, MisdirectedAt}
 use Rattle.grammar.proofs.Chain.{Distinct, chain-numbers, chain-first-iff, chain-second-iff, chain-third-iff, chain-none-iff}
 use Rattle.grammar.proofs.Decides.{Decided, by-end, by-fault, answer-iff, unsized-iff, sized-iff, size-cases}

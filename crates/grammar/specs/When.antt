@@ -28,10 +28,6 @@ pub data Faulty (lengths : ℕ → ℕ) (s : List ℕ) (at : ℕ) : Type 0 where
   wrong-length : (numberAt s at ≡ lengths (kindAt s at) → ⊥) → Faulty lengths s at
   past-end : length s < at + 2 + numberAt s at → Faulty lengths s at
 
--- The length of a rule record of each kind; 0 for a number that is no kind.
-abbrev pub ruleLength : ℕ → ℕ
-ruleLength kind = rowOf kind .length
-
 -- A label outside 1..999.
 abbrev pub Outside : ℕ → Type 0
 Outside label = (label < 1) ⊎ (999 < label)

@@ -1,6 +1,6 @@
 -- Whether one record stands whole at one offset: rows 2 and 6 of document 01's table of numbers, which have the same words.
 -- Shuts out: a record taken with fewer than 4 bytes left, of an unknown kind, of a wrong length, or running past the end.
--- Laws: proofs/Frame.antt. Assumes nothing.
+-- Laws: proofs/FrameLaws.antt, and the crate grammar. Assumes nothing.
 use Prim.Native.Nat.{ℕ, zero, suc, _+_}
 use mathlib.Core.Bool.{Bool, true, false, cond, not, _||_}
 use mathlib.Core.List.{List}
@@ -27,6 +27,10 @@ abbrev pub broken : Frame → Bool
 broken Whole = false
 broken Cut = true
 broken Garbled = true
+
+-- Rows 2 and 6: the record at an offset is not whole, where `lengths` gives the length of each kind, 0 for a number that is no kind.
+abbrev pub brokenAt : (ℕ → ℕ) → List ℕ → ℕ → Bool
+brokenAt lengths s at = broken (frameOf s at (lengths (kindAt s at)))
 
 -- Where the next record begins: after the two bytes of the length and as many bytes as it says.
 unfoldable pub nextOf : List ℕ → ℕ → ℕ

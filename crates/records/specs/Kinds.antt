@@ -1,5 +1,5 @@
 -- The table of kinds of rule records: length and body of each, and which of them look back. Document 01, "Records".
--- Laws: proofs/KindLaws.antt. Assumes nothing.
+-- Laws: proofs/KindLaws.antt, proofs/Rows.antt. Assumes nothing.
 use Prim.Native.Nat.{ℕ}
 use mathlib.Core.Bool.{Bool, true, false, _||_, _&&_}
 use mathlib.Core.List.{List, [], _∷_}
@@ -40,6 +40,10 @@ table =
 -- The row of a kind.
 unfoldable pub rowOf : ℕ → Row
 rowOf kind = getD table kind noKind
+
+-- The length of a rule record of each kind; 0 for a number that is no kind.
+abbrev pub ruleLength : ℕ → ℕ
+ruleLength kind = rowOf kind .length
 
 -- Kinds 1 to 5, 7, 9, 11 and 13 look back; every other kind looks ahead.
 unfoldable pub looksBack : ℕ → Bool

@@ -1,6 +1,6 @@
 -- The report reader: which number a report gets, and where. Document 01, "Numbers given back", rows 0 and 5 to 8, and its order.
 -- Shuts out: a record after the root's closing taken; a fault other than the first deciding; an end with an element open taken.
--- Laws: proofs/Report.antt. Assumes nothing.
+-- Laws: proofs/ReportLaws.antt, and the crate grammar. Assumes nothing.
 use Prim.Native.Nat.{ℕ, zero, suc, _+_}
 use mathlib.Core.Bool.{Bool, cond, _||_, _&&_}
 use mathlib.Core.List.{List, [], _∷_, _++_}
@@ -8,7 +8,7 @@ use lib.Dec.{ltb, eqb}
 use lib.ListN.{length}
 use Rattle.records.specs.Bytes.{numberAt}
 use Rattle.records.specs.First.{first}
-use Rattle.records.specs.Frame.{frameOf, kindAt, broken, startOf, stopsAt}
+use Rattle.records.specs.Frame.{kindAt, brokenAt, startOf, stopsAt}
 use Rattle.records.specs.Tags.{Tag, opens, closes, depth, opened, tagFault}
 use Rattle.records.specs.declared.answer.Answer.{Answer}
 use Rattle.records.specs.declared.answer.Answer.the-variants.{Accepted, Refused}
@@ -30,7 +30,7 @@ tagsBefore s (suc i) = tagsBefore s i ++ (tagAt s (startOf s i) ∷ [])
 -- the order 6, 7, 8; 0 where it has no fault. The root is closed where elements have been opened and none is open.
 unfoldable pub recordFault : List ℕ → ℕ → ℕ → ℕ → ℕ
 recordFault s at depth elements =
-    cond (broken (frameOf s at (reportLength (kindAt s at)))) 6
+    cond (brokenAt reportLength s at) 6
     (tagFault depth elements (eqb depth 0 && ltb 0 elements) (tagAt s at))
 
 -- The number that record i gets.

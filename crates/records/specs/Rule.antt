@@ -1,4 +1,6 @@
 -- The rule reader: which number a rule gets, and where. Document 01, "Numbers given back", rows 0 to 4, and its order.
+-- Shuts out: a fault other than the first deciding; 3 before 2; a 65th entry taken; a place that is not the record's own.
+-- Laws: proofs/RuleLaws.antt, and the crate grammar. Assumes nothing.
 use Prim.Native.Nat.{ℕ, _+_}
 use mathlib.Core.Bool.{Bool, false, cond, _||_, _&&_}
 use mathlib.Core.List.{List}
@@ -6,8 +8,8 @@ use lib.Dec.{leb, ltb, eqb}
 use lib.ListN.{length}
 use Rattle.records.specs.Bytes.{numberAt}
 use Rattle.records.specs.First.{first}
-use Rattle.records.specs.Frame.{frameOf, kindAt, broken, startOf, stopsAt}
-use Rattle.records.specs.Kinds.{rowOf}
+use Rattle.records.specs.Frame.{kindAt, brokenAt, startOf, stopsAt}
+use Rattle.records.specs.Kinds.{rowOf, ruleLength}
 use Rattle.records.specs.Tags.{outside}
 use Rattle.records.specs.declared.answer.Answer.{Answer}
 use Rattle.records.specs.declared.answer.Answer.the-variants.{Accepted, Refused}
@@ -35,12 +37,19 @@ misdirected Nothing arguments own e = false
 misdirected Label arguments own e = outside (e .a)
 misdirected Entries arguments own e = leb own (e .a) || (leb 2 arguments && leb own (e .b))
 
--- The number that the rule's record at an offset gets as entry `own`, in the order 4, 2, 3; 0 where it has no fault.
+-- Rows 4, 2 and 3 at the record at an offset, as entry `own`: a 65th entry begins; the record is faulty; its numbers are misdirected.
+abbrev pub row4 : ℕ → Bool
+row4 own = leb 64 own
+
+abbrev pub row2 : List ℕ → ℕ → Bool
+row2 s at = brokenAt ruleLength s at
+
+abbrev pub row3 : List ℕ → ℕ → ℕ → Bool
+row3 s own at = misdirected (rowOf (kindAt s at) .holds) (rowOf (kindAt s at) .arguments) own (entryAt s at)
+
+-- The number that the record gets, in the order 4, 2, 3; 0 where it has no fault.
 unfoldable pub ruleFault : List ℕ → ℕ → ℕ → ℕ
-ruleFault s own at =
-    cond (leb 64 own) 4
-    (cond (broken (frameOf s at (rowOf (kindAt s at) .length))) 2
-    (cond (misdirected (rowOf (kindAt s at) .holds) (rowOf (kindAt s at) .arguments) own (entryAt s at)) 3 0))
+ruleFault s own at = cond (row4 own) 4 (cond (row2 s at) 2 (cond (row3 s own at) 3 0))
 
 -- The number that record i gets: it is entry i.
 abbrev pub ruleFaults : List ℕ → ℕ → ℕ

@@ -5,9 +5,6 @@ use Rattle.records.proofs.FrameLaws.{frame-unknown, frame-wrong, frame-
 use borrow.Author.Needs.{needs}
 use Rattle.records.proofs.frame.frame_of.Statement.{statement}
 use Rattle.records.proofs.frame.frame_of.Tie as tie
-use Rattle.records.proofs.frame.frame_of.Reads as reads
-use Rattle.records.proofs.frame.frame_of.Lts as lts
-use Rattle.records.proofs.number.number_at.Reads as number-at-reads
 
 returns : tie.Need-returns
 returns c = sym (frame-unknown _ _ _ (c .before .before .pre) (c .if1 .taken))

@@ -3,39 +3,28 @@ use borrow.Author.Needs.{needs}
 use Rattle.records.specs.Bytes.{numberAt}
 use Rattle.records.proofs.number.number_at.Statement.{statement}
 use Rattle.records.proofs.number.number_at.Tie as tie
-use Rattle.records.proofs.number.number_at.Reads as reads
-use Rattle.records.proofs.number.number_at.Lts as lts
-use Rattle.records.proofs.number.byte.Reads as byte-reads
 
--- src/number.rt:18:10
 shared-slice-read-byte : tie.Need-shared-slice-read-byte
 shared-slice-read-byte c = search needs
 
--- src/number.rt:18:5
 byte-requires : tie.Need-byte-requires
 byte-requires c κs = search needs
 
--- src/number.rt:18:32
 add-byte : tie.Need-add-byte
 add-byte c = search needs
 
--- src/number.rt:18:30
 shared-slice-read-byte-2 : tie.Need-shared-slice-read-byte-2
 shared-slice-read-byte-2 c = search needs
 
--- src/number.rt:18:25
 byte-requires-2 : tie.Need-byte-requires-2
 byte-requires-2 c κs = search needs
 
--- src/number.rt:18:19
 mul-result : tie.Need-mul-result
 mul-result c = search needs
 
--- src/number.rt:18:5
 add-result : tie.Need-add-result
 add-result c = search needs
 
--- src/number.rt:14:1
 returns : tie.Need-returns
 unfolding numberAt
 returns c = search needs

@@ -3,8 +3,6 @@ use borrow.Author.Tests.{eq-eqb, ne-eqb}
 use Rattle.records.specs.Tags.{tagFault}
 use Rattle.records.proofs.report.close_fault.Statement.{statement}
 use Rattle.records.proofs.report.close_fault.Tie as tie
-use Rattle.records.proofs.report.close_fault.Reads as reads
-use Rattle.records.proofs.report.close_fault.Lts as lts
 
 returns : tie.Need-returns
 unfolding tagFault

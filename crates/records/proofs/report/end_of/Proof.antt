@@ -3,8 +3,6 @@ use borrow.Author.Tests.{eq-eqb, ne-eqb}
 use Rattle.records.specs.Report.{endOf}
 use Rattle.records.proofs.report.end_of.Statement.{statement}
 use Rattle.records.proofs.report.end_of.Tie as tie
-use Rattle.records.proofs.report.end_of.Reads as reads
-use Rattle.records.proofs.report.end_of.Lts as lts
 
 returns : tie.Need-returns
 unfolding endOf

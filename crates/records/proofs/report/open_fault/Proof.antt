@@ -2,8 +2,6 @@
 use Rattle.records.specs.Tags.{tagFault}
 use Rattle.records.proofs.report.open_fault.Statement.{statement}
 use Rattle.records.proofs.report.open_fault.Tie as tie
-use Rattle.records.proofs.report.open_fault.Reads as reads
-use Rattle.records.proofs.report.open_fault.Lts as lts
 
 returns : tie.Need-returns
 unfolding tagFault

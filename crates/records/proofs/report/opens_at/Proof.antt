@@ -5,9 +5,6 @@ use Prim.Native.Nat.{ℕ}
 use borrow.Author.Needs.{needs}
 use Rattle.records.proofs.report.opens_at.Statement.{statement}
 use Rattle.records.proofs.report.opens_at.Tie as tie
-use Rattle.records.proofs.report.opens_at.Reads as reads
-use Rattle.records.proofs.report.opens_at.Lts as lts
-use Rattle.records.proofs.number.number_at.Reads as number-at-reads
 
 add-number-at : tie.Need-add-number-at
 add-number-at c = search needs

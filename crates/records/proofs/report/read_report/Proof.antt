@@ -12,12 +12,6 @@ use Rattle.records.specs.declared.answer.Answer.the-variants.{Refused}
 use Rattle.records.proofs.ReportLaws.{ReportMid, record-sound, report-start, report-next, report-opens, report-open, report-closes, report-ends, report-refuses, report-empty, report-long}
 use Rattle.records.proofs.report.read_report.Statement.{statement}
 use Rattle.records.proofs.report.read_report.Tie as tie
-use Rattle.records.proofs.report.read_report.Reads as reads
-use Rattle.records.proofs.report.read_report.Lts as lts
-use Rattle.records.proofs.number.number_at.Reads as number-at-reads
-use Rattle.records.proofs.report.end_of.Reads as end-of-reads
-use Rattle.records.proofs.report.opens_at.Reads as opens-at-reads
-use Rattle.records.proofs.report.record_fault.Reads as record-fault-reads
 
 abbrev Inv-loop : tie.InvT-loop
 Inv-loop report at₀ depth₀ elements₀ at depth elements = (i : ℕ) × ReportMid report i at depth elements

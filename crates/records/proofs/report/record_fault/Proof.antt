@@ -7,12 +7,6 @@ use Rattle.records.proofs.ReportLaws.{record-few, record-broken, record
 use borrow.Author.Needs.{needs}
 use Rattle.records.proofs.report.record_fault.Statement.{statement}
 use Rattle.records.proofs.report.record_fault.Tie as tie
-use Rattle.records.proofs.report.record_fault.Reads as reads
-use Rattle.records.proofs.report.record_fault.Lts as lts
-use Rattle.records.proofs.frame.frame_of.Reads as frame-of-reads
-use Rattle.records.proofs.number.number_at.Reads as number-at-reads
-use Rattle.records.proofs.report.report_length.Reads as report-length-reads
-use Rattle.records.proofs.report.tag_fault.Reads as tag-fault-reads
 
 sub-if1 : tie.Need-sub-if1
 sub-if1 c = search needs

@@ -5,8 +5,6 @@ use mathlib.Core.Path.{_≡_, ap, sym}
 use Rattle.records.specs.Report.{reportLength}
 use Rattle.records.proofs.report.report_length.Statement.{statement}
 use Rattle.records.proofs.report.report_length.Tie as tie
-use Rattle.records.proofs.report.report_length.Reads as reads
-use Rattle.records.proofs.report.report_length.Lts as lts
 
 returns : tie.Need-returns
 unfolding reportLength

@@ -9,12 +9,6 @@ use Rattle.records.proofs.ReportLaws.{tag-opens, tag-closes}
 use borrow.Author.Needs.{needs}
 use Rattle.records.proofs.report.tag_fault.Statement.{statement}
 use Rattle.records.proofs.report.tag_fault.Tie as tie
-use Rattle.records.proofs.report.tag_fault.Reads as reads
-use Rattle.records.proofs.report.tag_fault.Lts as lts
-use Rattle.records.proofs.number.number_at.Reads as number-at-reads
-use Rattle.records.proofs.report.close_fault.Reads as close-fault-reads
-use Rattle.records.proofs.report.open_fault.Reads as open-fault-reads
-use Rattle.records.proofs.report.opens_at.Reads as opens-at-reads
 
 opens-at-requires : tie.Need-opens-at-requires
 opens-at-requires c κs = search needs

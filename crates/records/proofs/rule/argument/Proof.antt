@@ -1,12 +1,8 @@
 -- Assumes nothing.
 use native.Mathlib.Omega.{arith}
 use mathlib.Core.Path.{_≡_, refl}
-use borrow.Author.Needs.{needs}
 use Rattle.records.proofs.rule.argument.Statement.{statement}
 use Rattle.records.proofs.rule.argument.Tie as tie
-use Rattle.records.proofs.rule.argument.Reads as reads
-use Rattle.records.proofs.rule.argument.Lts as lts
-use Rattle.records.proofs.number.number_at.Reads as number-at-reads
 
 number-at-requires : tie.Need-number-at-requires
 number-at-requires c κs = c .before .before .pre (c .if1 .taken)

@@ -3,9 +3,6 @@ use mathlib.Core.Path.{_≡_, sym, _∙_}
 use borrow.Author.Needs.{needs}
 use Rattle.records.proofs.rule.entry_fault.Statement.{statement}
 use Rattle.records.proofs.rule.entry_fault.Tie as tie
-use Rattle.records.proofs.rule.entry_fault.Reads as reads
-use Rattle.records.proofs.rule.entry_fault.Lts as lts
-use Rattle.records.proofs.rule.misdirects.Reads as misdirects-reads
 
 misdirects-requires : tie.Need-misdirects-requires
 misdirects-requires c κs = search needs

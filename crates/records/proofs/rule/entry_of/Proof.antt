@@ -7,10 +7,6 @@ use Rattle.records.specs.Rule.{entryOf}
 use borrow.Author.Needs.{needs}
 use Rattle.records.proofs.rule.entry_of.Statement.{statement}
 use Rattle.records.proofs.rule.entry_of.Tie as tie
-use Rattle.records.proofs.rule.entry_of.Reads as reads
-use Rattle.records.proofs.rule.entry_of.Lts as lts
-use Rattle.records.proofs.number.number_at.Reads as number-at-reads
-use Rattle.records.proofs.rule.argument.Reads as argument-reads
 
 add-number-at : tie.Need-add-number-at
 add-number-at c = search needs

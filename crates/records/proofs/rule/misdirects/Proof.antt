@@ -4,8 +4,6 @@ use Rattle.records.specs.Rule.{misdirected}
 use borrow.Author.Needs.{needs}
 use Rattle.records.proofs.rule.misdirects.Statement.{statement}
 use Rattle.records.proofs.rule.misdirects.Tie as tie
-use Rattle.records.proofs.rule.misdirects.Reads as reads
-use Rattle.records.proofs.rule.misdirects.Lts as lts
 
 enum-told : tie.Need-enum-told
 enum-told c = search needs

@@ -1,6 +1,5 @@
 -- `read_rule`: the loop stops at the first record that stops reading. Assumes nothing.
 use native.Mathlib.Omega.{arith}
-use borrow.Author.Needs.{needs}
 use Prim.Native.Nat.{ℕ, _+_, _≤_, _-_}
 use lib.ListN.{length}
 use mathlib.Core.Path.{_≡_, ap, sym, _∙_}
@@ -11,10 +10,6 @@ use Rattle.records.specs.declared.answer.Answer.the-variants.{Refused}
 use Rattle.records.proofs.RuleLaws.{RuleMid, rule-sound, rule-next, rule-turn, rule-accepts, rule-refuses, rule-empty, rule-long}
 use Rattle.records.proofs.rule.read_rule.Statement.{statement}
 use Rattle.records.proofs.rule.read_rule.Tie as tie
-use Rattle.records.proofs.rule.read_rule.Reads as reads
-use Rattle.records.proofs.rule.read_rule.Lts as lts
-use Rattle.records.proofs.number.number_at.Reads as number-at-reads
-use Rattle.records.proofs.rule.rule_fault.Reads as rule-fault-reads
 
 abbrev Inv-loop : tie.InvT-loop
 Inv-loop rule at₀ entries₀ at entries = RuleMid rule entries at × (entries ≤ 64)

@@ -10,13 +10,6 @@ use Rattle.records.proofs.RuleLaws.{rule-full, rule-few, rule-broken, r
 use borrow.Author.Needs.{needs}
 use Rattle.records.proofs.rule.rule_fault.Statement.{statement}
 use Rattle.records.proofs.rule.rule_fault.Tie as tie
-use Rattle.records.proofs.rule.rule_fault.Reads as reads
-use Rattle.records.proofs.rule.rule_fault.Lts as lts
-use Rattle.records.proofs.frame.frame_of.Reads as frame-of-reads
-use Rattle.records.proofs.kind.row_of.Reads as row-of-reads
-use Rattle.records.proofs.number.number_at.Reads as number-at-reads
-use Rattle.records.proofs.rule.entry_fault.Reads as entry-fault-reads
-use Rattle.records.proofs.rule.entry_of.Reads as entry-of-reads
 
 returns : tie.Need-returns
 returns c = rule-full _ _ _ (c .if1 .taken)

@@ -4,10 +4,6 @@ use Rattle.records.proofs.TableLaws.{accepts-of, labels-refused, levels
 use borrow.Author.Needs.{needs}
 use Rattle.records.proofs.tables.fill_elements.Statement.{statement}
 use Rattle.records.proofs.tables.fill_elements.Tie as tie
-use Rattle.records.proofs.tables.fill_elements.Reads as reads
-use Rattle.records.proofs.tables.fill_elements.Lts as lts
-use Rattle.records.proofs.report.read_report.Reads as read-report-reads
-use Rattle.records.proofs.tables.put_elements.Reads as put-elements-reads
 
 read-report-requires : tie.Need-read-report-requires
 read-report-requires c κs = search needs

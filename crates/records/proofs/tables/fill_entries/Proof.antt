@@ -6,10 +6,6 @@ use Rattle.records.proofs.TableLaws.{entries-refused, over-kept}
 use borrow.Author.Needs.{needs}
 use Rattle.records.proofs.tables.fill_entries.Statement.{statement}
 use Rattle.records.proofs.tables.fill_entries.Tie as tie
-use Rattle.records.proofs.tables.fill_entries.Reads as reads
-use Rattle.records.proofs.tables.fill_entries.Lts as lts
-use Rattle.records.proofs.rule.read_rule.Reads as read-rule-reads
-use Rattle.records.proofs.tables.put_entries.Reads as put-entries-reads
 
 read-rule-requires : tie.Need-read-rule-requires
 read-rule-requires c κs = search needs

@@ -4,8 +4,6 @@ use mathlib.Core.Path.{_≡_, refl}
 use borrow.Author.Needs.{needs}
 use Rattle.records.proofs.tables.put_element.Statement.{statement}
 use Rattle.records.proofs.tables.put_element.Tie as tie
-use Rattle.records.proofs.tables.put_element.Reads as reads
-use Rattle.records.proofs.tables.put_element.Lts as lts
 
 cast-labels : tie.Need-cast-labels
 cast-labels c = search needs

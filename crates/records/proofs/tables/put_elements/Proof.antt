@@ -1,6 +1,5 @@
 -- `put_elements`: the columns hold the elements of the records passed. Assumes nothing.
 use native.Mathlib.Omega.{arith}
-use borrow.Author.Needs.{needs}
 use borrow.Author.Tests.{eqb-true}
 use Prim.Native.Nat.{ℕ, _+_, _≤_, _<_, _-_}
 use mathlib.Core.Logic.{⊎-elim}
@@ -12,12 +11,6 @@ use Rattle.records.proofs.ReportLaws.{record-sound, label-room, report-
 use Rattle.records.proofs.TableLaws.{ElementsMid, report-taken, elements-start, elements-fine, elements-turn, elements-ended, labels-taken, levels-taken}
 use Rattle.records.proofs.tables.put_elements.Statement.{statement}
 use Rattle.records.proofs.tables.put_elements.Tie as tie
-use Rattle.records.proofs.tables.put_elements.Reads as reads
-use Rattle.records.proofs.tables.put_elements.Lts as lts
-use Rattle.records.proofs.number.number_at.Reads as number-at-reads
-use Rattle.records.proofs.report.opens_at.Reads as opens-at-reads
-use Rattle.records.proofs.rule.argument.Reads as argument-reads
-use Rattle.records.proofs.tables.put_element.Reads as put-element-reads
 
 abbrev Inv-loop : tie.InvT-loop
 Inv-loop report labels₀ levels₀ at₀ depth₀ elements₀ labels levels at depth elements =

@@ -1,6 +1,5 @@
 -- `put_entries`: the columns hold the entries of the records passed. Assumes nothing.
 use native.Mathlib.Omega.{arith}
-use borrow.Author.Needs.{needs}
 use Prim.Native.Nat.{ℕ, _+_, _≤_, _<_, _-_}
 use mathlib.Core.List.{List, map}
 use mathlib.Core.Path.{_≡_, refl, ap, sym, _∙_}
@@ -12,10 +11,6 @@ use Rattle.records.proofs.RuleLaws.{RuleMid, rule-sound, stands-room, r
 use Rattle.records.proofs.TableLaws.{RuleTaken, rule-taken, taken-fine, over-none, column-put, entries-taken}
 use Rattle.records.proofs.tables.put_entries.Statement.{statement}
 use Rattle.records.proofs.tables.put_entries.Tie as tie
-use Rattle.records.proofs.tables.put_entries.Reads as reads
-use Rattle.records.proofs.tables.put_entries.Lts as lts
-use Rattle.records.proofs.number.number_at.Reads as number-at-reads
-use Rattle.records.proofs.tables.put_entry.Reads as put-entry-reads
 
 abbrev Inv-loop : tie.InvT-loop
 Inv-loop rule n kinds₀ firsts₀ seconds₀ at₀ i₀ kinds firsts seconds at i =

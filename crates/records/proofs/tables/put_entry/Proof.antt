@@ -5,11 +5,6 @@ use Rattle.records.specs.Kinds.{rowOf}
 use Rattle.records.proofs.RuleLaws.{entry-is}
 use Rattle.records.proofs.tables.put_entry.Statement.{statement}
 use Rattle.records.proofs.tables.put_entry.Tie as tie
-use Rattle.records.proofs.tables.put_entry.Reads as reads
-use Rattle.records.proofs.tables.put_entry.Lts as lts
-use Rattle.records.proofs.kind.row_of.Reads as row-of-reads
-use Rattle.records.proofs.number.number_at.Reads as number-at-reads
-use Rattle.records.proofs.rule.entry_of.Reads as entry-of-reads
 
 add-number-at : tie.Need-add-number-at
 add-number-at c = search needs
