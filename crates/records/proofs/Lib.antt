@@ -8,3 +8,5 @@ pub mod RuleLaws
 pub mod TagLaws
 pub mod ReportLaws
 pub mod TableLaws
+pub mod Bounds
+pub mod Only

@@ -8,3 +8,4 @@ pub mod Tags
 pub mod Rule
 pub mod Report
 pub mod Tables
+pub mod Reply

@@ -5,6 +5,7 @@
 // the place. The fillers hand the entries, or the labels and levels, to the layers above, so that
 // nobody parses the bytes again. No public function has a `requires`.
 pub mod answer;
+pub mod export;
 mod frame;
 pub mod kind;
 mod number;

@@ -1,0 +1,64 @@
+// The readers as C calls them; include/polonezar.h declares them.
+ghost use mathlib.Core.Path.{_≡_};
+ghost use Rattle.records.specs.Rule.{ruleAnswer};
+ghost use Rattle.records.specs.Report.{reportAnswer};
+ghost use Rattle.records.specs.Reply.{ruleReply, reportReply};
+use crate::answer::Answer;
+use crate::report::read_report;
+use crate::rule::read_rule;
+
+// What the rule reader answers: document 01's number, the place, and how many entries.
+#[repr(C)]
+pub struct RuleReply {
+    pub number: u32,
+    pub place: u32,
+    pub entries: u32,
+}
+
+// What the report reader answers: document 01's number, the place, and how many elements.
+#[repr(C)]
+pub struct ReportReply {
+    pub number: u32,
+    pub place: u32,
+    pub elements: u32,
+}
+
+// Reads a rule.
+#[no_mangle]
+pub extern "C" fn pz_read_rule(rule: &[u8]) -> RuleReply
+    ensures { λ r. ⌜ r ≡ ruleReply (ruleAnswer (now (rule .entry))) ⌝ }
+{
+    let answer = read_rule(rule);
+    match answer {
+        Answer::Accepted(entries) => RuleReply {
+            number: 0,
+            place: 0,
+            entries: entries as u32,
+        },
+        Answer::Refused(number, place) => RuleReply {
+            number: number,
+            place: place as u32,
+            entries: 0,
+        },
+    }
+}
+
+// Reads a report.
+#[no_mangle]
+pub extern "C" fn pz_read_report(report: &[u8]) -> ReportReply
+    ensures { λ r. ⌜ r ≡ reportReply (reportAnswer (now (report .entry))) ⌝ }
+{
+    let answer = read_report(report);
+    match answer {
+        Answer::Accepted(elements) => ReportReply {
+            number: 0,
+            place: 0,
+            elements: elements as u32,
+        },
+        Answer::Refused(number, place) => ReportReply {
+            number: number,
+            place: place as u32,
+            elements: 0,
+        },
+    }
+}
