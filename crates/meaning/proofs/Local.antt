@@ -1,0 +1,137 @@
+-- A rule that looks back only has at an element the same marks, and the same word, in every tree that has the same levels and labels
+-- up to that element. Assumes nothing.
+use Prim.Native.Nat.{ℕ, zero, suc, _≤_, _<_, suc-le-suc}
+use native.Mathlib.Nat.{not-suc-le-zero, le-of-suc-le-suc}
+use native.Mathlib.Decide.{decLt}
+use native.Mathlib.Omega.{arith}
+use mathlib.Core.Path.{_≡_, refl, sym, _∙_}
+use mathlib.Core.Bool.{Bool, true, false, cond}
+use mathlib.Core.List.{List, [], _∷_, _++_}
+use mathlib.Core.Option.{Option, none, some}
+use lib.Dec.{eqb}
+use lib.ListN.{length, getD, List·getD-eq-default}
+use Rattle.records.specs.declared.rule.Entry.{Entry}
+use Rattle.records.specs.Tags.{Tag, opens, depth, levelsFrom, levels, labels, opened}
+use Rattle.records.proofs.TagLaws.{levels-append, labels-append, levels-count}
+use Rattle.grammar.specs.Rules.{noEntry}
+use Rattle.meaning.specs.Links.{parent, previous}
+use Rattle.meaning.specs.Meaning.{Kind, kindOf}
+use Rattle.meaning.specs.Marks.{at, backward, means, below, mark, wordOf, verdict}
+use Rattle.meaning.specs.OnePass.{LooksBack}
+use Rattle.meaning.proofs.Links.{Agree, parent-prefix, previous-prefix}
+use Rattle.meaning.proofs.Tests.{Finds}
+use Rattle.meaning.proofs.Reflect.{parent-finds, previous-finds}
+use Rattle.meaning.proofs.OneStep.{backward-step}
+use Rattle.meaning.proofs.LooksBack.{Looks, looks-of, looks-always, looks-label, looks-not, looks-or, looks-and, looks-parent, looks-previous, looks-up, looks-left}
+use Rattle.meaning.proofs.Words.{word-same}
+
+-- Tests that agree at the element that is found pass alike there.
+pub at-same : (o : Option ℕ) (p q : ℕ → Bool) → ((t : ℕ) → o ≡ some t → p t ≡ q t) → at o p ≡ at o q
+at-same none p q h = refl
+at-same (some t) p q h = h t refl
+
+pick-same : (q : Bool) (s : ℕ) (f g f′ g′ : ℕ → Bool) → f s ≡ f′ s → g s ≡ g′ s → cond q f g s ≡ cond q f′ g′ s
+pick-same true s f g f′ g′ e d = e
+pick-same false s f g f′ g′ e d = d
+
+-- Two tests agree up to s.
+abbrev Alike : ℕ → (ℕ → Bool) → (ℕ → Bool) → Type 0
+Alike s p q = (t : ℕ) → t ≤ s → p t ≡ q t
+
+-- A way backward from s depends on what is found from elements up to s only.
+backward-same : {R R′ : ℕ → ℕ → Type 0} {f f′ : ℕ → Option ℕ} {n n′ : ℕ} → Finds R f n → Finds R′ f′ n′ → (a b a′ b′ : ℕ → Bool) (s : ℕ)
+    → s < n → s < n′ → ((t : ℕ) → t ≤ s → f t ≡ f′ t) → Alike s a a′ → Alike s b b′
+    → (m t : ℕ) → t < m → t ≤ s → backward f a b t ≡ backward f′ a′ b′ t
+backward-same F F′ a b a′ b′ s l l′ ef ea eb zero t lm ls = absurd (not-suc-le-zero lm)
+backward-same {f} {f′} F F′ a b a′ b′ s l l′ ef ea eb (suc m) t lm ls =
+    let next = at-same (f′ t) (backward f a b) (backward f′ a′ b′) (λ u e. let d = F′ .down t u e in
+    backward-same F F′ a b a′ b′ s l l′ ef ea eb m u (omega arith) (omega arith)) in
+    backward-step F a b t (omega arith) ∙ rw (ea t ls, eb t ls, ef t ls, next) refl ∙ sym (backward-step F′ a′ b′ t (omega arith))
+
+module _ (levels levels′ labels labels′ : List ℕ) (s : ℕ) (l : s < length levels) (l′ : s < length levels′)
+    (same : Agree levels levels′ s) (named : Agree labels labels′ s) where
+  parent-same : (t : ℕ) → t ≤ s → parent levels t ≡ parent levels′ t
+  parent-same t m = parent-prefix levels levels′ t (omega arith) (omega arith) (λ k i. same k (omega arith))
+
+  previous-same : (t : ℕ) → t ≤ s → previous levels t ≡ previous levels′ t
+  previous-same t m = previous-prefix levels levels′ t (omega arith) (omega arith) (λ k i. same k (omega arith))
+
+  module _ (label : ℕ) (a b a′ b′ : ℕ → Bool) (ea : Alike s a a′) (eb : Alike s b b′) (t : ℕ) (m : t ≤ s) where
+    -- A kind that looks back asks nothing past s.
+    means-same : {k : Kind} → Looks (Unit {0}) k → means levels labels k label a b t ≡ means levels′ labels′ k label a′ b′ t
+    unfolding means
+    means-same looks-always = refl
+    means-same looks-label = rw (named t m)
+    means-same (looks-not _) = rw (ea t m)
+    means-same (looks-or _) = rw (ea t m, eb t m)
+    means-same (looks-and _) = rw (ea t m, eb t m)
+    means-same (looks-parent _) =
+        rw (parent-same t m) (at-same (parent levels′ t) a a′ (λ u e. ea u (omega (arith, parent-finds levels′ .down t u e))))
+    means-same (looks-previous _) =
+        rw (previous-same t m) (at-same (previous levels′ t) a a′ (λ u e. ea u (omega (arith, previous-finds levels′ .down t u e))))
+    means-same (looks-up _) =
+        backward-same (parent-finds levels) (parent-finds levels′) a b a′ b′ s l l′ parent-same ea eb (suc t) t (omega arith) m
+    means-same (looks-left _) =
+        backward-same (previous-finds levels) (previous-finds levels′) a b a′ b′ s l l′ previous-same ea eb (suc t) t (omega arith) m
+
+  module _ (entries : List Entry) (back : LooksBack entries) where
+    entry-same : (k : ℕ) (a b a′ b′ : ℕ → Bool) → Alike s a a′ → Alike s b b′ → (t : ℕ) → t ≤ s
+        → means levels labels (kindOf (getD entries k noEntry .kind)) (getD entries k noEntry .a) a b t
+        ≡ means levels′ labels′ (kindOf (getD entries k noEntry .kind)) (getD entries k noEntry .a) a′ b′ t
+    unfolding means
+    entry-same k a b a′ b′ ea eb t m =
+        elim (decLt k (length entries)) [
+          | yes i ↦ means-same (getD entries k noEntry .a) a b a′ b′ ea eb t m (looks-of (getD entries k noEntry .kind) (back k i) (λ x. tt))
+          | no i ↦ let n : length entries ≤ k = omega arith in rw (List·getD-eq-default entries noEntry n)
+        ]
+
+    below-same : (k i t : ℕ) → t ≤ s → below levels labels entries k i t ≡ below levels′ labels′ entries k i t
+    unfolding below
+    below-same zero i t m = refl
+    below-same (suc k) i t m =
+        let e = getD entries k noEntry in
+        pick-same (eqb i k) t _ _ _ _ (entry-same k _ _ _ _ (below-same k (e .a)) (below-same k (e .b)) t m) (below-same k i t m)
+
+    -- The marks at s are the same.
+    pub mark-local : (i : ℕ) → mark levels labels entries i s ≡ mark levels′ labels′ entries i s
+    unfolding mark
+    mark-local i = below-same (suc i) i s (omega arith)
+
+    -- So is the word of s, and its verdict.
+    pub word-local : wordOf entries levels labels s ≡ wordOf entries levels′ labels′ s
+    unfolding wordOf
+    word-local = word-same (length entries) _ _ (λ i m. mark-local i)
+
+    pub verdict-local : verdict entries levels labels s ≡ verdict entries levels′ labels′ s
+    unfolding verdict
+    verdict-local = rw word-local
+
+-- ---- trees that begin with the same tags
+
+append-agree : (xs : List ℕ) (y : ℕ) (ys ys′ : List ℕ) → Agree (xs ++ (y ∷ ys)) (xs ++ (y ∷ ys′)) (length xs)
+append-agree [] y ys ys′ zero l = refl
+append-agree [] y ys ys′ (suc k) l = absurd (not-suc-le-zero l)
+append-agree (x ∷ xs) y ys ys′ zero l = refl
+append-agree (x ∷ xs) y ys ys′ (suc k) l = append-agree xs y ys ys′ k (le-of-suc-le-suc l)
+
+append-more : (xs : List ℕ) (y : ℕ) (ys : List ℕ) → length xs < length (xs ++ (y ∷ ys))
+append-more [] y ys = omega arith
+append-more (x ∷ xs) y ys = suc-le-suc (append-more xs y ys)
+
+module _ (entries : List Entry) (back : LooksBack entries) where
+  begun-same : (xs ns : List ℕ) → length xs ≡ length ns → (x : ℕ) (ys ys′ : List ℕ) (n : ℕ) (ms ms′ : List ℕ) (i : ℕ)
+      → mark (xs ++ (x ∷ ys)) (ns ++ (n ∷ ms)) entries i (length ns) ≡ mark (xs ++ (x ∷ ys′)) (ns ++ (n ∷ ms′)) entries i (length ns)
+  begun-same xs ns e x ys ys′ n ms ms′ i =
+      rw (← e) (mark-local (xs ++ (x ∷ ys)) (xs ++ (x ∷ ys′)) (ns ++ (n ∷ ms)) (ns ++ (n ∷ ms′)) (length xs)
+      (append-more xs x ys) (append-more xs x ys′) (append-agree xs x ys ys′) (rw e (append-agree ns n ms ms′)) entries back i)
+
+  -- The element that opens after some tags has the same marks whatever tags come after its opening.
+  pub mark-begun : (ts : List Tag) (l : ℕ) (more more′ : List Tag) (i : ℕ)
+      → mark (levels (ts ++ (opens l ∷ more))) (labels (ts ++ (opens l ∷ more))) entries i (opened ts)
+      ≡ mark (levels (ts ++ (opens l ∷ more′))) (labels (ts ++ (opens l ∷ more′))) entries i (opened ts)
+  unfolding levelsFrom labels
+  mark-begun ts l more more′ i =
+      rw (levels-append 0 ts (opens l ∷ more), levels-append 0 ts (opens l ∷ more′))
+      (rw (labels-append ts (opens l ∷ more), labels-append ts (opens l ∷ more′))
+      (begun-same (levels ts) (labels ts) (levels-count 0 ts) (depth ts) (levelsFrom (suc (depth ts)) more) (levelsFrom (suc (depth ts)) more′)
+      l (labels more) (labels more′) i))

@@ -1,0 +1,85 @@
+-- A mark is true exactly where the entry holds: the computing form tells the meaning, for every kind, at every element.
+-- Assumes nothing.
+use Prim.Native.Nat.{ℕ, zero, suc, pred, _≤_, _<_}
+use mathlib.Core.Path.{_≡_}
+use mathlib.Core.Bool.{Bool, true, false, cond}
+use mathlib.Core.List.{List}
+use mathlib.Core.Logic.{_↔_}
+use lib.Dec.{eqb}
+use lib.ListN.{length, getD}
+use Rattle.records.specs.declared.rule.Entry.{Entry}
+use Rattle.grammar.specs.Rules.{noEntry}
+use Rattle.grammar.proofs.Tells.{Told, holds, fails, true-iff, eqb-told, or-told, and-told, not-told}
+use Rattle.meaning.specs.Tree.{Child, Next}
+use Rattle.meaning.specs.Links.{parent, previous}
+use Rattle.meaning.specs.Meaning.{Kind, kindOf, nothing, always, hasLabel, negation, disjunction, conjunction, someChild, atParent, atNext, atPrevious, down, up, right, left, everyChild, Means, Below, Holds}
+use Rattle.meaning.specs.Marks.{means, below, mark, bitAt, wordOf, verdict}
+use Rattle.meaning.proofs.Links.{parent-is, parent-down, previous-is, previous-down}
+use Rattle.meaning.proofs.Tests.{ToldBelow, Finds, back-told, some-told, every-told, until-told, until-back-told}
+use Rattle.meaning.proofs.Words.{wordOf-bit, verdict-is}
+
+-- Parents find the child relation among a report's elements, and previous siblings the next-sibling relation.
+pub parent-finds : (levels : List ℕ) → Finds (Child levels) (parent levels) (length levels)
+parent-finds levels =
+    record { is = parent-is levels; down = parent-down levels; inside = λ s t e. parent-is levels s t .0 e .element }
+
+pub previous-finds : (levels : List ℕ) → Finds (Next levels) (previous levels) (length levels)
+previous-finds levels =
+    record { is = previous-is levels; down = previous-down levels; inside = λ s t e. previous-is levels s t .0 e .element }
+
+module _ (levels labels : List ℕ) where
+  module _ (label : ℕ) (A B : ℕ → Type 0) (a b : ℕ → Bool)
+      (ha : ToldBelow (length levels) A a) (hb : ToldBelow (length levels) B b) (s : ℕ) (l : s < length levels) where
+    -- The test of a kind tells what the kind means, where the tests of a and b do.
+    pub means-told : (k : Kind) → Told (Means levels labels k label A B s) (means levels labels k label a b s)
+    unfolding Means means
+    means-told nothing = fails (λ x. x)
+    means-told always = holds tt
+    means-told hasLabel = eqb-told (getD labels s 0) label
+    means-told negation = not-told (ha s l)
+    means-told disjunction = or-told (ha s l) (hb s l)
+    means-told conjunction = and-told (ha s l) (hb s l)
+    means-told someChild = some-told _ _ _ (parent-finds levels) A a ha s
+    means-told atParent = back-told _ _ _ (parent-finds levels) A a ha s l
+    means-told atNext = some-told _ _ _ (previous-finds levels) A a ha s
+    means-told atPrevious = back-told _ _ _ (previous-finds levels) A a ha s l
+    means-told down = until-told _ _ _ (parent-finds levels) A B a b ha hb s l
+    means-told up = until-back-told _ _ _ (parent-finds levels) A B a b ha hb s l
+    means-told right = until-told _ _ _ (previous-finds levels) A B a b ha hb s l
+    means-told left = until-back-told _ _ _ (previous-finds levels) A B a b ha hb s l
+    means-told everyChild = every-told _ _ _ (parent-finds levels) A a ha s
+
+  pick-told : (q : Bool) (s : ℕ) (P P′ : ℕ → Type 0) (p p′ : ℕ → Bool) → Told (P s) (p s) → Told (P′ s) (p′ s)
+      → Told (cond q P P′ s) (cond q p p′ s)
+  pick-told true s P P′ p p′ h h′ = h
+  pick-told false s P P′ p p′ h h′ = h′
+
+  module _ (entries : List Entry) where
+    -- So it is for the entries below k, by recursion on the entry number.
+    below-told : (k i s : ℕ) → s < length levels → Told (Below levels labels entries k i s) (below levels labels entries k i s)
+    unfolding Below below
+    below-told zero i s l = fails (λ x. x)
+    below-told (suc k) i s l =
+        pick-told (eqb i k) s _ _ _ _
+        (means-told (getD entries k noEntry .a) _ _ _ _ (below-told k (getD entries k noEntry .a)) (below-told k (getD entries k noEntry .b))
+        s l (kindOf (getD entries k noEntry .kind)))
+        (below-told k i s l)
+
+    -- An entry's mark at an element tells whether the entry holds there.
+    pub mark-told : (i s : ℕ) → s < length levels → Told (Holds levels labels entries i s) (mark levels labels entries i s)
+    unfolding Holds mark
+    mark-told i s l = below-told (suc i) i s l
+
+    -- A mark is true exactly where the entry holds.
+    pub mark-iff : (i s : ℕ) → s < length levels → (mark levels labels entries i s ≡ true) ↔ Holds levels labels entries i s
+    mark-iff i s l = true-iff (mark-told i s l)
+
+    -- A bit of an element's word is set exactly where that entry holds.
+    pub word-iff : (i s : ℕ) → i < length entries → s < length levels
+        → (bitAt (wordOf entries levels labels s) i ≡ true) ↔ Holds levels labels entries i s
+    word-iff i s m l = rw (wordOf-bit entries levels labels i s m) (mark-iff i s l)
+
+    -- The verdict is true exactly where the last entry, which is the rule, holds.
+    pub verdict-iff : (s : ℕ) → 1 ≤ length entries → s < length levels
+        → (verdict entries levels labels s ≡ true) ↔ Holds levels labels entries (pred (length entries)) s
+    verdict-iff s m l = rw (verdict-is entries levels labels s m) (mark-iff (pred (length entries)) s l)

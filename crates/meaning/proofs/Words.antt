@@ -1,0 +1,159 @@
+-- The bits of words, once over the number of entries; the words of a report, verdicts and the selected count.
+-- The laws of `word` serve more than one machine word for an element (`word-split`). Assumes nothing.
+use Prim.Native.Nat.{ℕ, zero, suc, pred, _+_, _*_, _/_, _%_, _^_, _<_, _≤_, _-_}
+use native.Mathlib.Nat.{not-suc-le-zero, le-of-suc-le-suc, eq-or-lt-of-le, pow-suc, add-comm, mul-add, mul-assoc, mul-left-comm, add-zero}
+use native.Mathlib.Nat.{add-suc, add-assoc, add-left-comm, add-mul-div-right, div-eq-of-lt, div-lt-iff-lt-mul, lt-of-lt-of-le, mod-lt, mul-zero, zero-mul, one-mul}
+use native.Mathlib.Omega.{arith}
+use mathlib.Core.Path.{_≡_, refl, ap, subst, sym, _∙_}
+use mathlib.Core.Bool.{Bool, true, false}
+use mathlib.Core.List.{List, [], _∷_, _++_}
+use mathlib.Core.Logic.{⊎-elim}
+use lib.Dec.{eqb}
+use lib.Pow.{pow-pos, pow-mono, pow-add, high, split}
+use lib.Bits.{block-odd}
+use lib.ListN.{length, getD, length-append, List·getD-append}
+use lib.Seq.{getD-at}
+use Rattle.records.specs.declared.rule.Entry.{Entry}
+use Rattle.meaning.specs.Marks.{bit, bitAt, word, mark, wordOf, wordsBelow, words, verdict, selected}
+
+-- ---- bits
+
+bit-le : (b : Bool) (p : ℕ) → bit b * p ≤ p
+bit-le true p = omega (arith, one-mul p)
+bit-le false p = omega (arith, zero-mul p)
+
+bit-told : (b : Bool) → eqb (bit b % 2) 1 ≡ b
+bit-told true = refl
+bit-told false = refl
+
+-- The bit on top of m bits, and those below it.
+bit-top : (m : ℕ) (b : Bool) (w : ℕ) → w < 2 ^ m → bitAt (bit b * 2 ^ m + w) m ≡ b
+bit-top m b w h = rw (high (bit b) m h) (bit-told b)
+
+bit-under-at : (j a x w : ℕ) → (x * 2 ^ (suc j + a) + w) / 2 ^ a % 2 ≡ w / 2 ^ a % 2
+bit-under-at j a x w =
+    rw (pow-add 2 (suc j) a, ← mul-assoc, add-comm, add-mul-div-right w (x * 2 ^ suc j) (pow-pos a), add-comm, block-odd x j (w / 2 ^ a))
+
+bit-under : (m a : ℕ) (b : Bool) (w : ℕ) → a < m → bitAt (bit b * 2 ^ m + w) a ≡ bitAt w a
+bit-under m a b w h =
+    let e : suc (m - suc a) + a ≡ m = omega arith in
+    ap (λ (n : ℕ). eqb n 1) (subst (λ (n : ℕ). (bit b * 2 ^ n + w) / 2 ^ a % 2 ≡ w / 2 ^ a % 2) e (bit-under-at (m - suc a) a (bit b) w))
+
+-- ---- the word of m marks
+
+-- A word of m marks is a number of m bits.
+pub word-lt : (m : ℕ) (f : ℕ → Bool) → word m f < 2 ^ m
+unfolding word
+word-lt zero f = omega arith
+word-lt (suc m) f = omega (arith, pow-suc 2 m, bit-le (f m) (2 ^ m), word-lt m f)
+
+-- Bit a of a word is mark a.
+pub word-bit : (m a : ℕ) (f : ℕ → Bool) → a < m → bitAt (word m f) a ≡ f a
+unfolding word
+word-bit zero a f h = absurd (not-suc-le-zero h)
+word-bit (suc m) a f h =
+    ⊎-elim (λ e. subst (λ (n : ℕ). bitAt (bit (f m) * 2 ^ m + word m f) n ≡ f n) (sym e) (bit-top m (f m) (word m f) (word-lt m f)))
+    (λ l. bit-under m a (f m) (word m f) l ∙ word-bit m a f l)
+    (eq-or-lt-of-le (le-of-suc-le-suc h))
+
+-- Bits past the last mark are 0.
+pub word-past : (m a : ℕ) (f : ℕ → Bool) → m ≤ a → bitAt (word m f) a ≡ false
+word-past m a f h = rw (div-eq-of-lt (lt-of-lt-of-le (word-lt m f) (pow-mono h)))
+
+-- Equal marks have equal words.
+pub word-same : (m : ℕ) (f g : ℕ → Bool) → ((i : ℕ) → i < m → f i ≡ g i) → word m f ≡ word m g
+unfolding word
+word-same zero f g h = refl
+word-same (suc m) f g h = rw (h m (omega arith), word-same m f g (λ i l. h i (omega arith)))
+
+-- The word of m + k marks is that of the first m, and above it that of the other k: so an element's marks may be kept in parts.
+pub word-split : (m k : ℕ) (f : ℕ → Bool) → word (m + k) f ≡ word m f + 2 ^ m * word k (λ i. f (m + i))
+unfolding word
+word-split m zero f = rw (add-zero m, mul-zero (2 ^ m), add-zero (word m f))
+word-split m (suc k) f =
+    rw (add-suc m k, word, word-split m k f, pow-add 2 m k, mul-add, mul-left-comm (bit (f (m + k))) (2 ^ m) (2 ^ k))
+    (add-left-comm _ _ _)
+
+-- A number of one bit more: its top bit, and the bits below.
+bit-low : (q : ℕ) → q < 2 → bit (eqb (q % 2) 1) ≡ q
+bit-low zero h = refl
+bit-low (suc zero) h = refl
+bit-low (suc (suc q)) h = absurd (omega arith)
+
+number-top : (m w : ℕ) → w < 2 ^ suc m → bit (bitAt w m) * 2 ^ m + w % 2 ^ m ≡ w
+number-top m w h =
+    rw (bit-low (w / 2 ^ m) (div-lt-iff-lt-mul (pow-pos m) .1 (omega (arith, pow-suc 2 m)))) (split w m)
+
+-- A number of m bits that are the marks is their word.
+pub word-only : (m w : ℕ) (f : ℕ → Bool) → w < 2 ^ m → ((i : ℕ) → i < m → bitAt w i ≡ f i) → w ≡ word m f
+unfolding word
+word-only zero w f h e = omega arith
+word-only (suc m) w f h e =
+    let top = number-top m w h in
+    let low : (i : ℕ) → i < m → bitAt (w % 2 ^ m) i ≡ f i =
+    λ i l. sym (bit-under m i (bitAt w m) (w % 2 ^ m) l) ∙ ap (λ (x : ℕ). bitAt x i) top ∙ e i (omega arith) in
+    rw (← word-only m (w % 2 ^ m) f (mod-lt w (pow-pos m)) low, ← e m (omega arith)) (sym top)
+
+-- ---- how many words have the last entry's bit
+
+-- How many numbers below n pass p.
+unfoldable pub countBelow : ℕ → (ℕ → Bool) → ℕ
+countBelow zero p = 0
+countBelow (suc n) p = countBelow n p + bit (p n)
+
+-- One word more counts its own bit more.
+pub selected-more : (m w : ℕ) (ws : List ℕ) → selected m (ws ++ (w ∷ [])) ≡ selected m ws + bit (bitAt w (pred m))
+unfolding selected
+selected-more m w [] = add-comm _ _
+selected-more m w (v ∷ ws) = rw (selected-more m w ws) (sym (add-assoc _ _ _))
+
+module _ (entries : List Entry) (levels labels : List ℕ) where
+  -- The words of the first n elements are n, and word s is the word of element s.
+  wordsBelow-length : (n : ℕ) → length (wordsBelow entries levels labels n) ≡ n
+  unfolding wordsBelow
+  wordsBelow-length zero = refl
+  wordsBelow-length (suc n) = rw length-append (omega (arith, wordsBelow-length n))
+
+  wordsBelow-at : (n s : ℕ) → s < n → getD (wordsBelow entries levels labels n) s 0 ≡ wordOf entries levels labels s
+  unfolding wordsBelow
+  wordsBelow-at zero s l = absurd (not-suc-le-zero l)
+  wordsBelow-at (suc n) s l =
+      ⊎-elim (λ e. rw e (getD-at (wordsBelow entries levels labels n) (wordOf entries levels labels n) [] 0 n (wordsBelow-length n)))
+      (λ m. List·getD-append (wordsBelow entries levels labels n) _ 0 s (omega (arith, wordsBelow-length n)) ∙ wordsBelow-at n s m)
+      (eq-or-lt-of-le (le-of-suc-le-suc l))
+
+  -- There is a word for each element.
+  pub words-length : length (words entries levels labels) ≡ length levels
+  unfolding words
+  words-length = wordsBelow-length (length levels)
+
+  -- Word s is the word of element s.
+  pub words-at : (s : ℕ) → s < length levels → getD (words entries levels labels) s 0 ≡ wordOf entries levels labels s
+  unfolding words
+  words-at s l = wordsBelow-at (length levels) s l
+
+  -- Bit i of an element's word is entry i's mark.
+  pub wordOf-bit : (i s : ℕ) → i < length entries → bitAt (wordOf entries levels labels s) i ≡ mark levels labels entries i s
+  unfolding wordOf
+  wordOf-bit i s l = word-bit (length entries) i _ l
+
+  -- Bits past the last entry are 0.
+  pub wordOf-past : (i s : ℕ) → length entries ≤ i → bitAt (wordOf entries levels labels s) i ≡ false
+  unfolding wordOf
+  wordOf-past i s l = word-past (length entries) i _ l
+
+  -- The verdict is the last entry's mark, where there is an entry.
+  pub verdict-is : (s : ℕ) → 1 ≤ length entries
+      → verdict entries levels labels s ≡ mark levels labels entries (pred (length entries)) s
+  unfolding verdict
+  verdict-is s l = wordOf-bit (pred (length entries)) s (omega arith)
+
+  selected-below : (n : ℕ) → selected (length entries) (wordsBelow entries levels labels n) ≡ countBelow n (verdict entries levels labels)
+  unfolding wordsBelow selected countBelow verdict
+  selected-below zero = refl
+  selected-below (suc n) = rw (selected-more, selected-below n)
+
+  -- The selected count of a report's words is the number of its elements with a true verdict.
+  pub selected-words : selected (length entries) (words entries levels labels) ≡ countBelow (length levels) (verdict entries levels labels)
+  unfolding words
+  selected-words = selected-below (length levels)

@@ -1,0 +1,130 @@
+-- The table of document 01, "One pass", over an abstract state: what opening and closing do. The bytes of the state are a later
+-- matter. A word has a bit for every entry, however many there are.
+-- Shuts out: the previous sibling's word read where a cousin left it; kinds 7 and 9 more than one step away; root closed forgotten.
+-- Laws: proofs/Taken.antt (what is taken and counted), proofs/StepTable.antt, proofs/Walk.antt, proofs/Agrees.antt (the one-pass
+-- theorem). Assumes nothing.
+use Prim.Native.Nat.{ℕ, zero, suc, pred, _+_, _*_, _^_, _<_}
+use mathlib.Core.Path.{_≡_}
+use mathlib.Core.Bool.{Bool, true, false, cond, not, _&&_, _||_}
+use mathlib.Core.List.{List, [], _∷_}
+use lib.Dec.{eqb, ltb}
+use lib.ListN.{length, getD, set, replicate}
+use Rattle.records.specs.declared.rule.Entry.{Entry}
+use Rattle.records.specs.Kinds.{looksBack}
+use Rattle.records.specs.Tags.{Tag, opens, closes, tagFault}
+use Rattle.grammar.specs.Rules.{noEntry}
+use Rattle.meaning.specs.Meaning.{Kind, kindOf, nothing, always, hasLabel, negation, disjunction, conjunction, someChild, atParent, atNext, atPrevious, down, up, right, left, everyChild}
+use Rattle.meaning.specs.Marks.{bit, bitAt}
+
+-- How many elements are open and have been opened, whether the root is closed, and for each of 64 levels a presence bit, an open
+-- word and a last word.
+pub record State : Type 0 where
+  pub depth : ℕ
+  pub elements : ℕ
+  pub rootClosed : Bool
+  pub presence : List Bool
+  pub openWords : List ℕ
+  pub lastWords : List ℕ
+
+-- What start writes: zeros.
+abbrev pub fresh : State
+fresh =
+    record {
+      depth = 0;
+      elements = 0;
+      rootClosed = false;
+      presence = replicate 64 false;
+      openWords = replicate 64 0;
+      lastWords = replicate 64 0;
+    }
+
+-- Entry i's bit for an element with a label, from the bits of the entries before it (w), the parent's word and the previous
+-- sibling's. Only kinds that look back have one.
+unfoldable pub stepBit : Kind → (a b i label w parentWord siblingWord : ℕ) → Bool
+stepBit always a b i label w p q = true
+stepBit hasLabel a b i label w p q = eqb label a
+stepBit negation a b i label w p q = not (bitAt w a)
+stepBit disjunction a b i label w p q = bitAt w a || bitAt w b
+stepBit conjunction a b i label w p q = bitAt w a && bitAt w b
+stepBit atParent a b i label w p q = bitAt p a
+stepBit atPrevious a b i label w p q = bitAt q a
+stepBit up a b i label w p q = bitAt w b || (bitAt w a && bitAt p i)
+stepBit left a b i label w p q = bitAt w b || (bitAt w a && bitAt q i)
+stepBit nothing a b i label w p q = false
+stepBit someChild a b i label w p q = false
+stepBit atNext a b i label w p q = false
+stepBit down a b i label w p q = false
+stepBit right a b i label w p q = false
+stepBit everyChild a b i label w p q = false
+
+module _ (entries : List Entry) where
+  abbrev entry : ℕ → Entry
+  entry i = getD entries i noEntry
+
+  -- The word of the first m entries, made entry by entry.
+  unfoldable pub stepWord : (label parentWord siblingWord m : ℕ) → ℕ
+  stepWord label p q zero = 0
+  stepWord label p q (suc m) =
+      bit (stepBit (kindOf (entry m .kind)) (entry m .a) (entry m .b) m label (stepWord label p q m) p q) * 2 ^ m + stepWord label p q m
+
+  -- The parent's word, from open word d - 1, and the previous sibling's, from last word d: no such word counts as 0.
+  abbrev pub parentWord : State → ℕ
+  parentWord st = cond (eqb (st .depth) 0) 0 (getD (st .openWords) (pred (st .depth)) 0)
+
+  abbrev pub siblingWord : State → ℕ
+  siblingWord st = cond (getD (st .presence) (st .depth) false) (getD (st .lastWords) (st .depth) 0) 0
+
+  -- The word of an element that opens now.
+  unfoldable pub openedWord : State → ℕ → ℕ
+  openedWord st label = stepWord label (parentWord st) (siblingWord st) (length entries)
+
+  -- Opening at depth d stores the word as open word d, clears presence bit d + 1 if d is under 63, and counts the element.
+  unfoldable pub opened : State → ℕ → State
+  opened st label =
+      record {
+        depth = suc (st .depth);
+        elements = suc (st .elements);
+        rootClosed = st .rootClosed;
+        presence = cond (ltb (st .depth) 63) (set (st .presence) (suc (st .depth)) false) (st .presence);
+        openWords = set (st .openWords) (st .depth) (openedWord st label);
+        lastWords = st .lastWords;
+      }
+
+  -- The verdict at an opening: the last entry's bit.
+  unfoldable pub openedVerdict : State → ℕ → Bool
+  openedVerdict st label = bitAt (openedWord st label) (pred (length entries))
+
+-- Closing at depth d copies open word d - 1 to last word d - 1, sets presence bit d - 1, and closes the root if nothing is open now.
+unfoldable pub closed : State → State
+closed st =
+    record {
+      depth = pred (st .depth);
+      elements = st .elements;
+      rootClosed = cond (eqb (pred (st .depth)) 0) true (st .rootClosed);
+      presence = set (st .presence) (pred (st .depth)) true;
+      openWords = st .openWords;
+      lastWords = set (st .lastWords) (pred (st .depth)) (getD (st .openWords) (pred (st .depth)) 0);
+    }
+
+-- The rule looks back only: every entry's kind does.
+abbrev pub LooksBack : List Entry → Type 0
+LooksBack entries = (i : ℕ) → i < length entries → looksBack (getD entries i noEntry .kind) ≡ true
+
+-- The number that a tag gets in a state, in the order 6, 7, 8; 0 where the table takes it.
+abbrev pub fault : State → Tag → ℕ
+fault st t = tagFault (st .depth) (st .elements) (st .rootClosed) t
+
+-- The state after a tag that is taken.
+unfoldable pub after : List Entry → State → Tag → State
+after entries st (opens label) = opened entries st label
+after entries st closes = closed st
+
+-- The state after a sequence of tags.
+unfoldable pub afterAll : List Entry → State → List Tag → State
+afterAll entries st [] = st
+afterAll entries st (t ∷ ts) = afterAll entries (after entries st t) ts
+
+-- Every tag of the sequence is taken, one after the other.
+unfoldable pub Taken : List Entry → State → List Tag → Type 0
+Taken entries st [] = Unit {0}
+Taken entries st (t ∷ ts) = (_≡_ {A = ℕ} (fault st t) 0) × Taken entries (after entries st t) ts
