@@ -51,21 +51,23 @@ enum pz_size {
 /* The numbers given back. pz_read_rule gives 0 to 4; pz_read_report gives 0 and 5 to 8. The numbers
  * 9 to 12 are those of calls that this library does not have; neither function gives them. */
 enum pz_number {
-    PZ_ACCEPTED = 0,          /* accepted */
-    PZ_RULE_SIZE = 1,         /* rule of 0 bytes or over 512 */
-    PZ_RULE_RECORD = 2,       /* rule record with fewer than 4 bytes left, of unknown kind, of the
-                                 wrong length for its kind, or running past the end */
-    PZ_RULE_ARGUMENT = 3,     /* entry number not below its own, or label outside 1..999, in a rule */
-    PZ_RULE_FULL = 4,         /* a 65th entry begins: any byte after the 64th */
-    PZ_REPORT_SIZE = 5,       /* report of 0 bytes or over 40,960 */
-    PZ_REPORT_RECORD = 6,     /* report record faulty as in 2, or label outside 1..999 */
-    PZ_REPORT_ORDER = 7,      /* closing with nothing open, opening after the root closed, or end
-                                 with an element open */
-    PZ_REPORT_FULL = 8,       /* opening at level 64, or a 4,097th element */
-    PZ_MARKS_SHORT = 9,       /* mark buffer shorter than the number of elements */
-    PZ_LOOKS_AHEAD = 10,      /* one-pass call, rule has an entry that looks ahead */
-    PZ_STATE_BAD = 11,        /* one-pass call, state bad */
-    PZ_TALLY = 12             /* tally full or out of balance */
+    PZ_ACCEPTED = 0,          /* taken as it is */
+    PZ_RULE_SIZE = 1,         /* the rule is empty, or longer than 512 bytes */
+    PZ_RULE_RECORD = 2,       /* a record of the rule is cut off, or its kind is none of 1 to 14, or
+                                 its length is not that of its kind */
+    PZ_RULE_ARGUMENT = 3,     /* an entry names itself or a later entry, or its label is not one of
+                                 1 to 999 */
+    PZ_RULE_FULL = 4,         /* the rule goes on after its 64th entry */
+    PZ_REPORT_SIZE = 5,       /* the report is empty, or longer than 40,960 bytes */
+    PZ_REPORT_RECORD = 6,     /* a record of the report is cut off or malformed, or its label is not
+                                 one of 1 to 999 */
+    PZ_REPORT_ORDER = 7,      /* tags out of order: a closing with no element open, an opening when the
+                                 root is closed already, or a report that stops too early */
+    PZ_REPORT_FULL = 8,       /* more than 64 levels, or more than 4,096 elements */
+    PZ_MARKS_SHORT = 9,       /* the buffer for marks has too few words */
+    PZ_LOOKS_AHEAD = 10,      /* one pass cannot follow this rule: an entry looks ahead */
+    PZ_STATE_BAD = 11,        /* the saved state of one pass is damaged or of another length */
+    PZ_TALLY = 12             /* the tally is full, or its counts do not add up */
 };
 
 /* What pz_read_rule gives. */
