@@ -13,7 +13,9 @@ number-at-requires : tie.Need-number-at-requires
 number-at-requires c κs = search needs
 
 returns-2 : tie.Need-returns-2
-returns-2 c = sym (frame-wrong _ _ _ (c .before .before .before .before .pre) (c .before .before .if1 .left) (λ e. c .if2 .taken (c .before .number-at .ensures .0 ∙ e)))
+returns-2 c =
+    let a = c .before .before .before .before in
+    sym (frame-wrong _ _ _ (a .pre) (c .before .before .if1 .left) (λ e. c .if2 .taken (c .before .number-at .ensures .0 ∙ e)))
 
 sub-if3 : tie.Need-sub-if3
 sub-if3 c = search needs
@@ -22,10 +24,14 @@ sub-if3-2 : tie.Need-sub-if3-2
 sub-if3-2 c = search needs
 
 returns-3 : tie.Need-returns-3
-returns-3 c = sym (frame-past _ _ _ (c .before .before .before .before .before .pre) (c .before .before .before .if1 .left) (sym (c .before .before .number-at .ensures .0) ∙ c .before .if2 .left) (omega arith))
+returns-3 c =
+    let n = c .before .before in
+    sym (frame-past _ _ _ (n .before .before .before .pre) (n .before .if1 .left) (sym (n .number-at .ensures .0) ∙ c .before .if2 .left) (omega arith))
 
 returns-4 : tie.Need-returns-4
-returns-4 c = sym (frame-whole _ _ _ (c .before .before .before .before .before .pre) (c .before .before .before .if1 .left) (sym (c .before .before .number-at .ensures .0) ∙ c .before .if2 .left) (omega arith))
+returns-4 c =
+    let n = c .before .before in
+    sym (frame-whole _ _ _ (n .before .before .before .pre) (n .before .if1 .left) (sym (n .number-at .ensures .0) ∙ c .before .if2 .left) (omega arith))
 
 pub frame-of-spec : {M : Type 1} → statement M
 frame-of-spec =

@@ -20,11 +20,13 @@ abbrev μ-loop : tie.MeasureT-loop
 μ-loop report at₀ depth₀ elements₀ at depth elements = length report - at
 
 -- After the test of the record in hand: it has no fault.
-fine : (c : tie.Else4 Inv-loop μ-loop) → let l = c .before .before .before .loop in recordFault (c .before .before .before .before .before .before .before .args .report .now) (l .at) (l .depth) (l .elements) ≡ 0
+fine : (c : tie.Else4 Inv-loop μ-loop) → let l = c .before .before .before in
+    recordFault (l .before .before .before .before .args .report .now) (l .loop .at) (l .loop .depth) (l .loop .elements) ≡ 0
 fine c = sym (c .before .record-fault .ensures) ∙ c .if4 .left
 
 -- So the next record begins within the report.
-next : (c : tie.Else4 Inv-loop μ-loop) → let l = c .before .before .before .loop in l .at + 2 + numberAt (c .before .before .before .before .before .before .before .args .report .now) (l .at) ≤ length (c .before .before .before .before .before .before .before .args .report .now)
+next : (c : tie.Else4 Inv-loop μ-loop) → let l = c .before .before .before in let s = l .before .before .before .before .args .report .now in
+    l .loop .at + 2 + numberAt s (l .loop .at) ≤ length s
 next c = report-next _ (c .before .before .before .loop .inv .1) (fine c)
 
 returns : tie.Need-returns Inv-loop μ-loop
@@ -52,7 +54,9 @@ add-elements : tie.Need-add-elements Inv-loop μ-loop
 add-elements c = omega (arith, c .before .before .before .before .before .loop .inv .1 .few)
 
 sub-depth : tie.Need-sub-depth Inv-loop μ-loop
-sub-depth c = report-open _ (c .before .before .before .before .before .loop .inv .1) (c .before .before .before .before .if3 .left) (fine (c .before .before)) (sym (c .before .opens-at .ensures) ∙ c .if5 .left)
+sub-depth c =
+    report-open _ (c .before .before .before .before .before .loop .inv .1) (c .before .before .before .before .if3 .left) (fine (c .before .before))
+    (sym (c .before .opens-at .ensures) ∙ c .if5 .left)
 
 add-at : tie.Need-add-at Inv-loop μ-loop
 add-at c = omega (arith, next (c .before .before))
@@ -68,16 +72,27 @@ loop-less c = omega (arith, next (c .before .before .before), c .number-at .ensu
 
 loop-again : tie.Need-loop-again Inv-loop μ-loop
 loop-again c =
+    let l = c .before .before .before .before .before .before in
+    let o = c .before .before .opens-at .ensures in
     ⊎-elim
-    (λ w. rw (c .number-at .ensures .0, w .1, w .2) (_, report-opens _ (c .before .before .before .before .before .before .loop .inv .1) (c .before .before .before .before .before .if3 .left) (fine (c .before .before .before)) (sym (c .before .before .opens-at .ensures) ∙ w .0 .taken)))
-    (λ w. rw (c .number-at .ensures .0, w .1, w .2) (_, report-closes _ (c .before .before .before .before .before .before .loop .inv .1) (c .before .before .before .before .before .if3 .left) (fine (c .before .before .before)) (sym (c .before .before .opens-at .ensures) ∙ w .0 .left)))
+    (λ w. rw (c .number-at .ensures .0, w .1, w .2)
+    (_, report-opens _ (l .loop .inv .1) (c .before .before .before .before .before .if3 .left) (fine (c .before .before .before)) (sym o ∙ w .0 .taken)))
+    (λ w. rw (c .number-at .ensures .0, w .1, w .2)
+    (_, report-closes _ (l .loop .inv .1) (c .before .before .before .before .before .if3 .left) (fine (c .before .before .before)) (sym o ∙ w .0 .left)))
     (c .before .if5 .came)
 
 returns-3 : tie.Need-returns-3 Inv-loop μ-loop
-returns-3 c = c .end-of .ensures ∙ report-ends _ (c .before .before .loop .inv .1) (c .before .before .before .before .if1 .left) (c .before .before .before .if2 .left) (c .before .if3 .taken)
+returns-3 c =
+    let l = c .before .before in
+    c .end-of .ensures ∙ report-ends _ (l .loop .inv .1) (l .before .before .if1 .left) (l .before .if2 .left) (c .before .if3 .taken)
 
 returns-4 : tie.Need-returns-4 Inv-loop μ-loop
-returns-4 c = ap (λ (n : ℕ). Refused n (c .before .before .before .loop .at)) (c .before .record-fault .ensures) ∙ report-refuses _ (c .before .before .before .loop .inv .1) (c .before .before .before .before .before .if1 .left) (c .before .before .before .before .if2 .left) (c .before .before .if3 .left) (λ z. c .if4 .taken (c .before .record-fault .ensures ∙ z))
+returns-4 c =
+    let f = c .before in
+    let l = f .before .before in
+    ap (λ (n : ℕ). Refused n (l .loop .at)) (f .record-fault .ensures)
+    ∙ report-refuses _ (l .loop .inv .1) (l .before .before .if1 .left) (l .before .if2 .left) (f .before .if3 .left)
+    (λ z. c .if4 .taken (f .record-fault .ensures ∙ z))
 
 pub read-report-spec : {M : Type 1} → statement M
 read-report-spec =

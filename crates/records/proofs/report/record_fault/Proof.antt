@@ -36,16 +36,30 @@ enum-told-3 : tie.Need-enum-told-3
 enum-told-3 c = search needs
 
 tag-fault-requires : tie.Need-tag-fault-requires
-tag-fault-requires c κs = (omega arith, open-room _ _ (sym (c .enum-told3 .given .1) ∙ c .before .before .frame-of .ensures ∙ ap (frameOf _ _) (c .before .before .before .report-length .ensures ∙ ap reportLength (c .before .before .before .before .number-at .ensures .0))))
+tag-fault-requires c κs =
+    let f = c .before .before in (
+      omega arith,
+      open-room _ _ (sym (c .enum-told3 .given .1) ∙ f .frame-of .ensures
+          ∙ ap (frameOf _ _) (f .before .report-length .ensures ∙ ap reportLength (f .before .before .number-at .ensures .0))),
+    )
 
 returns-2 : tie.Need-returns-2
-returns-2 c = record-broken _ _ _ _ _ (sym (c .enum-told .given .1) ∙ c .before .before .frame-of .ensures ∙ ap (frameOf _ _) (c .before .before .before .report-length .ensures ∙ ap reportLength (c .before .before .before .before .number-at .ensures .0))) refl
+returns-2 c =
+    let f = c .before .before in
+    record-broken _ _ _ _ _ (sym (c .enum-told .given .1) ∙ f .frame-of .ensures
+    ∙ ap (frameOf _ _) (f .before .report-length .ensures ∙ ap reportLength (f .before .before .number-at .ensures .0))) refl
 
 returns-3 : tie.Need-returns-3
-returns-3 c = record-broken _ _ _ _ _ (sym (c .enum-told2 .given .1) ∙ c .before .before .frame-of .ensures ∙ ap (frameOf _ _) (c .before .before .before .report-length .ensures ∙ ap reportLength (c .before .before .before .before .number-at .ensures .0))) refl
+returns-3 c =
+    let f = c .before .before in
+    record-broken _ _ _ _ _ (sym (c .enum-told2 .given .1) ∙ f .frame-of .ensures
+    ∙ ap (frameOf _ _) (f .before .report-length .ensures ∙ ap reportLength (f .before .before .number-at .ensures .0))) refl
 
 returns-4 : tie.Need-returns-4
-returns-4 c = c .tag-fault .ensures ∙ record-whole _ _ _ _ (sym (c .before .enum-told3 .given .1) ∙ c .before .before .before .frame-of .ensures ∙ ap (frameOf _ _) (c .before .before .before .before .report-length .ensures ∙ ap reportLength (c .before .before .before .before .before .number-at .ensures .0)))
+returns-4 c =
+    let f = c .before .before .before in
+    c .tag-fault .ensures ∙ record-whole _ _ _ _ (sym (c .before .enum-told3 .given .1) ∙ f .frame-of .ensures
+    ∙ ap (frameOf _ _) (f .before .report-length .ensures ∙ ap reportLength (f .before .before .number-at .ensures .0)))
 
 pub record-fault-spec : {M : Type 1} → statement M
 record-fault-spec =

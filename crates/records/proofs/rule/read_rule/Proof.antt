@@ -18,10 +18,11 @@ abbrev μ-loop : tie.MeasureT-loop
 μ-loop rule at₀ entries₀ at entries = length rule - at
 
 -- After the test of the record in hand: it has no fault, so it is whole and the next one begins within the rule.
-fine : (c : tie.Else4 Inv-loop μ-loop) → ruleFault (c .before .before .before .before .before .before .before .args .rule .now) (c .before .before .before .loop .entries) (c .before .before .before .loop .at) ≡ 0
+fine : (c : tie.Else4 Inv-loop μ-loop) → let l = c .before .before .before in ruleFault (l .before .before .before .before .args .rule .now) (l .loop .entries) (l .loop .at) ≡ 0
 fine c = sym (c .before .rule-fault .ensures) ∙ c .if4 .left
 
-next : (c : tie.Else4 Inv-loop μ-loop) → c .before .before .before .loop .at + 2 + numberAt (c .before .before .before .before .before .before .before .args .rule .now) (c .before .before .before .loop .at) ≤ length (c .before .before .before .before .before .before .before .args .rule .now)
+next : (c : tie.Else4 Inv-loop μ-loop) → let l = c .before .before .before in let s = l .before .before .before .before .args .rule .now in
+    l .loop .at + 2 + numberAt s (l .loop .at) ≤ length s
 next c = rule-next _ (c .before .before .before .loop .inv .0) (fine c)
 
 returns : tie.Need-returns Inv-loop μ-loop
@@ -52,13 +53,24 @@ loop-less : tie.Need-loop-less Inv-loop μ-loop
 loop-less c = omega (arith, next (c .before), c .number-at .ensures .0)
 
 loop-again : tie.Need-loop-again Inv-loop μ-loop
-loop-again c = (rw (c .number-at .ensures .0) (rule-turn _ (c .before .before .before .before .loop .inv .0) (c .before .before .before .if3 .left) (fine (c .before))), omega (arith, rule-sound _ _ _ (fine (c .before)) .0))
+loop-again c =
+    let l = c .before .before .before .before .loop in (
+      rw (c .number-at .ensures .0) (rule-turn _ (l .inv .0) (c .before .before .before .if3 .left) (fine (c .before))),
+      omega (arith, rule-sound _ _ _ (fine (c .before)) .0),
+    )
 
 returns-3 : tie.Need-returns-3 Inv-loop μ-loop
-returns-3 c = rule-accepts _ (c .before .before .before .if1 .left) (c .before .before .if2 .left) (c .before .loop .inv .0) (c .before .loop .inv .1) (c .if3 .taken)
+returns-3 c =
+    let l = c .before .loop in
+    rule-accepts _ (c .before .before .before .if1 .left) (c .before .before .if2 .left) (l .inv .0) (l .inv .1) (c .if3 .taken)
 
 returns-4 : tie.Need-returns-4 Inv-loop μ-loop
-returns-4 c = ap (λ (n : ℕ). Refused n (c .before .before .before .loop .at)) (c .before .rule-fault .ensures) ∙ rule-refuses _ (c .before .before .before .before .before .if1 .left) (c .before .before .before .before .if2 .left) (c .before .before .before .loop .inv .0) (c .before .before .before .loop .inv .1) (c .before .before .if3 .left) (λ z. c .if4 .taken (c .before .rule-fault .ensures ∙ z))
+returns-4 c =
+    let f = c .before in
+    let l = f .before .before in
+    ap (λ (n : ℕ). Refused n (l .loop .at)) (f .rule-fault .ensures)
+    ∙ rule-refuses _ (l .before .before .if1 .left) (l .before .if2 .left) (l .loop .inv .0) (l .loop .inv .1) (f .before .if3 .left)
+    (λ z. c .if4 .taken (f .rule-fault .ensures ∙ z))
 
 pub read-rule-spec : {M : Type 1} → statement M
 read-rule-spec =

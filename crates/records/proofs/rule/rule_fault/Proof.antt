@@ -42,19 +42,35 @@ enum-told-3 : tie.Need-enum-told-3
 enum-told-3 c = search needs
 
 entry-of-requires : tie.Need-entry-of-requires
-entry-of-requires c κs = rule-room _ (c .before .before .before .before .before .before .before .before .args .own) _ _ (c .before .before .before .row-of .ensures ∙ ap rowOf (c .before .before .before .before .number-at .ensures .0)) (sym (c .enum-told3 .given .1) ∙ c .before .before .frame-of .ensures)
+entry-of-requires c κs =
+    let r = c .before .before .before in
+    rule-room _ (r .before .before .before .before .before .args .own) _ _ (r .row-of .ensures ∙ ap rowOf (r .before .number-at .ensures .0))
+    (sym (c .enum-told3 .given .1) ∙ c .before .before .frame-of .ensures)
 
 entry-fault-requires : tie.Need-entry-fault-requires
 entry-fault-requires c κs = search needs
 
 returns-3 : tie.Need-returns-3
-returns-3 c = rule-broken _ _ _ _ (c .before .before .before .row-of .ensures ∙ ap rowOf (c .before .before .before .before .number-at .ensures .0)) (c .before .before .before .before .before .before .if1 .left) _ (sym (c .enum-told .given .1) ∙ c .before .before .frame-of .ensures) refl
+returns-3 c =
+    let r = c .before .before .before in
+    rule-broken _ _ _ _ (r .row-of .ensures ∙ ap rowOf (r .before .number-at .ensures .0)) (r .before .before .before .if1 .left) _
+    (sym (c .enum-told .given .1) ∙ c .before .before .frame-of .ensures) refl
 
 returns-4 : tie.Need-returns-4
-returns-4 c = rule-broken _ _ _ _ (c .before .before .before .row-of .ensures ∙ ap rowOf (c .before .before .before .before .number-at .ensures .0)) (c .before .before .before .before .before .before .if1 .left) _ (sym (c .enum-told2 .given .1) ∙ c .before .before .frame-of .ensures) refl
+returns-4 c =
+    let r = c .before .before .before in
+    rule-broken _ _ _ _ (r .row-of .ensures ∙ ap rowOf (r .before .number-at .ensures .0)) (r .before .before .before .if1 .left) _
+    (sym (c .enum-told2 .given .1) ∙ c .before .before .frame-of .ensures) refl
 
 returns-5 : tie.Need-returns-5
-returns-5 c = c .entry-fault .ensures ∙ ap (λ (e : Entry). cond (misdirected (c .before .before .before .before .before .row-of .result .holds) (c .before .before .before .before .before .row-of .result .arguments) (c .before .before .before .before .before .before .before .before .before .before .args .own) e) 3 0) (c .before .entry-of .ensures .0) ∙ rule-whole _ _ _ _ (c .before .before .before .before .before .row-of .ensures ∙ ap rowOf (c .before .before .before .before .before .before .number-at .ensures .0)) (c .before .before .before .before .before .before .before .before .if1 .left) (sym (c .before .before .enum-told3 .given .1) ∙ c .before .before .before .before .frame-of .ensures)
+returns-5 c =
+    let r = c .before .before .before .before .before in
+    let row = r .row-of .result in
+    let own = r .before .before .before .before .before .args .own in
+    c .entry-fault .ensures
+    ∙ ap (λ (e : Entry). cond (misdirected (row .holds) (row .arguments) own e) 3 0) (c .before .entry-of .ensures .0)
+    ∙ rule-whole _ _ _ _ (r .row-of .ensures ∙ ap rowOf (r .before .number-at .ensures .0)) (r .before .before .before .if1 .left)
+    (sym (c .before .before .enum-told3 .given .1) ∙ c .before .before .before .before .frame-of .ensures)
 
 pub rule-fault-spec : {M : Type 1} → statement M
 rule-fault-spec =

@@ -19,7 +19,11 @@ enum-known-number c = search needs
 
 returns : tie.Need-returns
 returns c =
-    record { answer = (sym (c .before .before .before .before .n .given .1) ∙ c .before .before .before .before .before .before .read-report .ensures); labels-are = c .put-elements .ensures .0; levels-are = c .put-elements .ensures .1 }
+    record {
+      answer = sym (c .before .before .before .before .n .given .1) ∙ c .before .before .before .before .before .before .read-report .ensures;
+      labels-are = c .put-elements .ensures .0;
+      levels-are = c .put-elements .ensures .1;
+    }
 
 returns-2 : tie.Need-returns-2
 returns-2 c =

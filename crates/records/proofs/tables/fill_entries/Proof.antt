@@ -21,13 +21,23 @@ enum-known-number c = search needs
 
 returns : tie.Need-returns
 returns c =
-    record { answer = (sym (c .before .before .before .before .before .n .given .1) ∙ c .before .before .before .before .before .before .before .read-rule .ensures); kinds-are = c .put-entries .ensures .0; firsts-are = c .put-entries .ensures .1 .0; seconds-are = c .put-entries .ensures .1 .1 }
+    record {
+      answer = sym (c .before .before .before .before .before .n .given .1) ∙ c .before .before .before .before .before .before .before .read-rule .ensures;
+      kinds-are = c .put-entries .ensures .0;
+      firsts-are = c .put-entries .ensures .1 .0;
+      seconds-are = c .put-entries .ensures .1 .1;
+    }
 
 returns-2 : tie.Need-returns-2
 returns-2 c =
-    let a = (sym (c .before .number .given .1) ∙ c .before .before .before .read-rule .ensures) in
+    let a = sym (c .before .number .given .1) ∙ c .before .before .before .read-rule .ensures in
     let e = entries-refused _ _ _ a in
-    record { answer = a; kinds-are = over-kept _ _ (ap (map kindOf) e); firsts-are = over-kept _ _ (ap (map aOf) e); seconds-are = over-kept _ _ (ap (map bOf) e) }
+    record {
+      answer = a;
+      kinds-are = over-kept _ _ (ap (map kindOf) e);
+      firsts-are = over-kept _ _ (ap (map aOf) e);
+      seconds-are = over-kept _ _ (ap (map bOf) e);
+    }
 
 pub fill-entries-spec : {M : Type 1} → statement M
 fill-entries-spec =

@@ -19,10 +19,13 @@ Inv-loop report labels₀ levels₀ at₀ depth₀ elements₀ labels levels at 
 abbrev μ-loop : tie.MeasureT-loop
 μ-loop report labels₀ levels₀ at₀ depth₀ elements₀ labels levels at depth elements = length report - at
 
--- In a turn the record in hand has no fault.
-fine : (c : tie.In-loop Inv-loop μ-loop) → let l = c .before .loop in recordFault (c .before .before .before .args .report .now) (l .at) (l .depth) (l .elements) ≡ 0
-fine c =
-    elements-fine _ _ _ (report-taken _ (c .before .before .before .pre)) (c .before .loop .inv .1) (λ q. absurd (omega (arith, c .loop-test .taken)))
+-- In a turn the report goes on, and the record in hand has no fault.
+open-there : (c : tie.In-loop Inv-loop μ-loop) → c .before .loop .at ≡ length (c .before .before .before .args .report .now) → ⊥
+open-there c q = omega (arith, c .loop-test .taken)
+
+fine : (c : tie.In-loop Inv-loop μ-loop) → let l = c .before .loop in
+    recordFault (c .before .before .before .args .report .now) (l .at) (l .depth) (l .elements) ≡ 0
+fine c = elements-fine _ _ _ (report-taken _ (c .before .before .before .pre)) (c .before .loop .inv .1) (open-there c)
 
 -- So the next record begins within the report.
 next : (c : tie.In-loop Inv-loop μ-loop) → let l = c .before .loop in let s = c .before .before .before .args .report .now in
@@ -39,13 +42,15 @@ add-argument : tie.Need-add-argument Inv-loop μ-loop
 add-argument c = omega (arith, next (c .before))
 
 argument-requires : tie.Need-argument-requires Inv-loop μ-loop
-argument-requires c κs = λ e. omega (arith, label-room _ _ (record-sound _ _ _ _ (fine (c .before)) .0) (eqb-true _ _ (sym (c .opens-at .ensures) ∙ e)))
+argument-requires c κs =
+    λ e. omega (arith, label-room _ _ (record-sound _ _ _ _ (fine (c .before)) .0) (eqb-true _ _ (sym (c .opens-at .ensures) ∙ e)))
 
 put-element-requires : tie.Need-put-element-requires Inv-loop μ-loop
-put-element-requires c κs = (
-  (c .before .before .argument .ensures .1, omega (arith, c .before .before .before .before .before .loop .inv .1 .mid .shallow)),
-  λ e. report-room _ (c .before .before .before .before .before .loop .inv .1 .mid) (λ q. absurd (omega (arith, c .before .before .before .before .loop-test .taken))) (fine (c .before .before .before .before)) (sym (c .before .before .before .opens-at .ensures) ∙ e) .1,
-)
+put-element-requires c κs =
+    let l = c .before .before .before .before .before in (
+      (c .before .before .argument .ensures .1, omega (arith, l .loop .inv .1 .mid .shallow)),
+      λ e. report-room _ (l .loop .inv .1 .mid) (open-there (c .before .before .before .before)) (fine (c .before .before .before .before)) (sym (c .before .before .before .opens-at .ensures) ∙ e) .1,
+    )
 
 add-depth : tie.Need-add-depth Inv-loop μ-loop
 add-depth c = omega (arith, c .before .before .before .before .before .before .before .loop .inv .1 .mid .shallow)
@@ -54,7 +59,8 @@ add-elements : tie.Need-add-elements Inv-loop μ-loop
 add-elements c = omega (arith, c .before .before .before .before .before .before .before .loop .inv .1 .mid .few)
 
 sub-depth : tie.Need-sub-depth Inv-loop μ-loop
-sub-depth c = report-open _ (c .before .before .before .before .before .before .before .loop .inv .1 .mid) (λ q. absurd (omega (arith, c .before .before .before .before .before .before .loop-test .taken))) (fine (c .before .before .before .before .before .before)) (sym (c .before .before .before .before .before .opens-at .ensures) ∙ c .if1 .left)
+sub-depth c =
+    report-open _ (c .before .before .before .before .before .before .before .loop .inv .1 .mid) (open-there (c .before .before .before .before .before .before)) (fine (c .before .before .before .before .before .before)) (sym (c .before .before .before .before .before .opens-at .ensures) ∙ c .if1 .left)
 
 add-at : tie.Need-add-at Inv-loop μ-loop
 add-at c = omega (arith, next (c .before .before .before .before .before .before))
@@ -70,27 +76,30 @@ loop-less c = omega (arith, next (c .before .before .before .before .before .bef
 
 loop-again : tie.Need-loop-again Inv-loop μ-loop
 loop-again c =
+    let l = c .before .before .before .before .before .before .before .before in
+    let o = c .before .before .before .before .before .before .opens-at .ensures in
+    let p = c .before .before .put-element .ensures in
+    let ne = open-there (c .before .before .before .before .before .before .before) in
     ⊎-elim
     (λ w. rw (c .number-at .ensures .0, w .1, w .2) (
       _,
-      elements-turn _ _ _ (report-taken _ (c .before .before .before .before .before .before .before .before .before .before .pre)) (c .before .before .before .before .before .before .before .before .loop .inv .1) (λ q. absurd (omega (arith, c .before .before .before .before .before .before .before .loop-test .taken))) _ (sym (c .before .before .before .before .before .before .opens-at .ensures)) _ _ _ _ _ _
-          (c .before .before .before .before .before .argument .ensures .0) (c .before .before .put-element .ensures .0) (c .before .before .put-element .ensures .1)
-          (report-opens _ (c .before .before .before .before .before .before .before .before .loop .inv .1 .mid) (λ q. absurd (omega (arith, c .before .before .before .before .before .before .before .loop-test .taken))) (fine (c .before .before .before .before .before .before .before)) (sym (c .before .before .before .before .before .before .opens-at .ensures) ∙ w .0 .taken)),
+      elements-turn _ _ _ (report-taken _ (l .before .before .pre)) (l .loop .inv .1) ne _ (sym o) _ _ _ _ _ _
+          (c .before .before .before .before .before .argument .ensures .0) (p .0) (p .1) (report-opens _ (l .loop .inv .1 .mid) ne (fine (c .before .before .before .before .before .before .before)) (sym o ∙ w .0 .taken)),
     ))
     (λ w. rw (c .number-at .ensures .0, w .1, w .2) (
       _,
-      elements-turn _ _ _ (report-taken _ (c .before .before .before .before .before .before .before .before .before .before .pre)) (c .before .before .before .before .before .before .before .before .loop .inv .1) (λ q. absurd (omega (arith, c .before .before .before .before .before .before .before .loop-test .taken))) _ (sym (c .before .before .before .before .before .before .opens-at .ensures)) _ _ _ _ _ _
-          (c .before .before .before .before .before .argument .ensures .0) (c .before .before .put-element .ensures .0) (c .before .before .put-element .ensures .1)
-          (report-closes _ (c .before .before .before .before .before .before .before .before .loop .inv .1 .mid) (λ q. absurd (omega (arith, c .before .before .before .before .before .before .before .loop-test .taken))) (fine (c .before .before .before .before .before .before .before)) (sym (c .before .before .before .before .before .before .opens-at .ensures) ∙ w .0 .left)),
+      elements-turn _ _ _ (report-taken _ (l .before .before .pre)) (l .loop .inv .1) ne _ (sym o) _ _ _ _ _ _
+          (c .before .before .before .before .before .argument .ensures .0) (p .0) (p .1) (report-closes _ (l .loop .inv .1 .mid) ne (fine (c .before .before .before .before .before .before .before)) (sym o ∙ w .0 .left)),
     ))
     (c .before .if1 .came)
 
 returns : tie.Need-returns Inv-loop μ-loop
 returns c =
-    let l = c .before .loop in
-    let taken = report-taken _ (c .before .before .before .pre) in
-    let end : l .at ≡ length (c .before .before .before .args .report .now) = omega (arith, c .loop-test .left, l .inv .1 .mid .mid .within) in
-    rw (labels-taken _ (c .before .before .before .pre), levels-taken _ (c .before .before .before .pre), ← (elements-ended _ _ _ taken (l .inv .1) end)) (l .inv .1 .labels-are, l .inv .1 .levels-are)
+    let l = c .before in
+    let a = c .before .before .before in
+    let m = l .loop .inv .1 in
+    let end : l .loop .at ≡ length (a .args .report .now) = omega (arith, c .loop-test .left, m .mid .mid .within) in
+    rw (labels-taken _ (a .pre), levels-taken _ (a .pre), ← (elements-ended _ _ _ (report-taken _ (a .pre)) m end)) (m .labels-are, m .levels-are)
 
 pub put-elements-spec : {M : Type 1} → statement M
 put-elements-spec =

@@ -5,6 +5,7 @@ use mathlib.Core.List.{List, map}
 use mathlib.Core.Path.{_≡_, refl, ap, sym, _∙_}
 use lib.ListN.{length, set}
 use Rattle.records.specs.Bytes.{numberAt}
+use Rattle.records.specs.Rule.{ruleFault}
 use Rattle.records.specs.Tables.{entriesBefore, over, kindOf, aOf, bOf}
 use Rattle.records.proofs.Reading.{mid-start}
 use Rattle.records.proofs.RuleLaws.{RuleMid, rule-sound, stands-room, rule-next, rule-turn}
@@ -21,11 +22,13 @@ abbrev μ-loop : tie.MeasureT-loop
 μ-loop rule n kinds₀ firsts₀ seconds₀ at₀ i₀ kinds firsts seconds at i = n - i
 
 -- The record in hand has no fault, so the next one begins within the rule.
-next : (c : tie.After-put-entry Inv-loop μ-loop) → let l = c .before .before .before .before .before .loop in let s = c .before .before .before .before .before .before .before .args .rule .now in
+fine : (c : tie.In-loop Inv-loop μ-loop) → let l = c .before .loop in let s = c .before .before .before .args .rule .now in
+    (l .at ≡ length s → ⊥) × (ruleFault s (l .i) (l .at) ≡ 0)
+fine c = taken-fine (rule-taken _ _ (c .before .before .before .pre)) (c .before .loop .inv .0) (c .loop-test .taken)
+
+next : (c : tie.In-loop Inv-loop μ-loop) → let l = c .before .loop in let s = c .before .before .before .args .rule .now in
     l .at + 2 + numberAt s (l .at) ≤ length s
-next c =
-    let l = c .before .before .before .before .before .loop in
-    rule-next _ (l .inv .0) (taken-fine (rule-taken _ _ (c .before .before .before .before .before .before .before .pre)) (l .inv .0) (c .before .before .before .before .loop-test .taken) .1)
+next c = rule-next _ (c .before .loop .inv .0) (fine c .1)
 
 loop-holds : tie.Need-loop-holds Inv-loop μ-loop
 unfolding entriesBefore
@@ -33,18 +36,20 @@ loop-holds c = (mid-start _ _, omega arith, sym (over-none _), sym (over-none _)
 
 put-entry-requires : tie.Need-put-entry-requires Inv-loop μ-loop
 put-entry-requires c κs =
-    let l = c .before .before .before .before .loop in
-    let r = rule-sound _ _ _ (taken-fine (rule-taken _ _ (c .before .before .before .before .before .before .pre)) (l .inv .0) (c .before .before .before .loop-test .taken) .1) in
+    let r = rule-sound _ _ _ (fine (c .before .before .before) .1) in
     (stands-room _ _ _ (r .1), r .0)
 
 add-at : tie.Need-add-at Inv-loop μ-loop
-add-at c = omega (arith, next c)
+add-at c =
+    omega (arith, next (c .before .before .before .before))
 
 number-at-requires : tie.Need-number-at-requires Inv-loop μ-loop
-number-at-requires c κs = omega (arith, next c)
+number-at-requires c κs =
+    omega (arith, next (c .before .before .before .before))
 
 add-at-2 : tie.Need-add-at-2 Inv-loop μ-loop
-add-at-2 c = omega (arith, next (c .before), c .number-at .ensures .0)
+add-at-2 c =
+    omega (arith, next (c .before .before .before .before .before), c .number-at .ensures .0)
 
 add-i : tie.Need-add-i Inv-loop μ-loop
 add-i c = omega (arith, c .before .before .before .before .before .loop-test .taken, c .before .before .before .before .before .before .before .before .fits)
@@ -56,9 +61,13 @@ loop-again : tie.Need-loop-again Inv-loop μ-loop
 loop-again c =
     let l = c .before .before .before .before .before .before .loop in
     let p = c .before .put-entry .ensures in
-    let t = rule-taken _ _ (c .before .before .before .before .before .before .before .before .pre) in
-    let f = taken-fine t (l .inv .0) (c .before .before .before .before .before .loop-test .taken) in
-    (rw (c .number-at .ensures .0) (rule-turn _ (l .inv .0) (f .0) (f .1)), omega (arith, c .before .before .before .before .before .loop-test .taken), column-put kindOf _ _ _ _ _ _ (l .inv .0 .begins) (l .inv .2) (p .0), column-put aOf _ _ _ _ _ _ (l .inv .0 .begins) (l .inv .3) (p .1 .0), column-put bOf _ _ _ _ _ _ (l .inv .0 .begins) (l .inv .4) (p .1 .1))
+    let f = fine (c .before .before .before .before .before) in (
+      rw (c .number-at .ensures .0) (rule-turn _ (l .inv .0) (f .0) (f .1)),
+      omega (arith, c .before .before .before .before .before .loop-test .taken),
+      column-put kindOf _ _ _ _ _ _ (l .inv .0 .begins) (l .inv .2) (p .0),
+      column-put aOf _ _ _ _ _ _ (l .inv .0 .begins) (l .inv .3) (p .1 .0),
+      column-put bOf _ _ _ _ _ _ (l .inv .0 .begins) (l .inv .4) (p .1 .1),
+    )
 
 returns : tie.Need-returns Inv-loop μ-loop
 returns c =
