@@ -76,7 +76,8 @@ module _ (levels labels : List ℕ) (entries : List Entry) where
       ≡ meansOver i (mark levels labels entries (entry i .a)) (mark levels labels entries (entry i .b))
   mark-is i la lb = rw (mark-below i, below-mark i (entry i .a), below-mark i (entry i .b))
 
-  plain : (k l : ℕ) (a b a′ b′ : ℕ → Bool) → 1 ≤ k → k < 3 → means levels labels (kindOf k) l a b ≡ means levels labels (kindOf k) l a′ b′
+  -- Kinds 1 and 2 ask nothing of a and b.
+  pub plain : (k l : ℕ) (a b a′ b′ : ℕ → Bool) → 1 ≤ k → k < 3 → means levels labels (kindOf k) l a b ≡ means levels labels (kindOf k) l a′ b′
   unfolding means
   plain zero l a b a′ b′ m n = absurd (omega arith)
   plain (suc zero) l a b a′ b′ m n = refl

@@ -27,14 +27,14 @@ bit-told true = refl
 bit-told false = refl
 
 -- The bit on top of m bits, and those below it.
-bit-top : (m : ℕ) (b : Bool) (w : ℕ) → w < 2 ^ m → bitAt (bit b * 2 ^ m + w) m ≡ b
+pub bit-top : (m : ℕ) (b : Bool) (w : ℕ) → w < 2 ^ m → bitAt (bit b * 2 ^ m + w) m ≡ b
 bit-top m b w h = rw (high (bit b) m h) (bit-told b)
 
 bit-under-at : (j a x w : ℕ) → (x * 2 ^ (suc j + a) + w) / 2 ^ a % 2 ≡ w / 2 ^ a % 2
 bit-under-at j a x w =
     rw (pow-add 2 (suc j) a, ← mul-assoc, add-comm, add-mul-div-right w (x * 2 ^ suc j) (pow-pos a), add-comm, block-odd x j (w / 2 ^ a))
 
-bit-under : (m a : ℕ) (b : Bool) (w : ℕ) → a < m → bitAt (bit b * 2 ^ m + w) a ≡ bitAt w a
+pub bit-under : (m a : ℕ) (b : Bool) (w : ℕ) → a < m → bitAt (bit b * 2 ^ m + w) a ≡ bitAt w a
 bit-under m a b w h =
     let e : suc (m - suc a) + a ≡ m = omega arith in
     ap (λ (n : ℕ). eqb n 1) (subst (λ (n : ℕ). (bit b * 2 ^ n + w) / 2 ^ a % 2 ≡ w / 2 ^ a % 2) e (bit-under-at (m - suc a) a (bit b) w))

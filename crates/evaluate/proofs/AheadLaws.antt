@@ -1,0 +1,202 @@
+-- The pass from the last element on, once over what is looked for: until an element's turn bit i of its word says whether one of the
+-- elements passed, whose column leads there, has given. Assumes nothing.
+use Prim.Native.Nat.{ℕ, zero, suc, _+_, _*_, _^_, _%_, _-_, _≤_, _<_}
+use native.Mathlib.Decide.{ℕ-discrete, decLt}
+use native.Mathlib.Nat.{eq-or-lt-of-le}
+use native.Mathlib.Omega.{arith}
+use mathlib.Core.Path.{_≡_, refl, sym, ap, ap₂, subst, _∙_}
+use mathlib.Core.Bool.{Bool, true, false, cond, _&&_, _||_}
+use mathlib.Core.List.{List}
+use mathlib.Core.Logic.{⊎-elim}
+use mathlib.Core.Option.{Option, none, some}
+use borrow.Author.Tests.{lt-ltb, le-ltb, eq-eqb, ne-eqb}
+use lib.Dec.{ltb, eqb}
+use lib.ListN.{length, getD, set, List·getD-eq-default}
+use Rattle.grammar.proofs.Tells.{told-same, true-iff, eqb-told, and-told}
+use Rattle.meaning.specs.Links.{At}
+use Rattle.meaning.specs.Marks.{at, anyBelow, bit, bitAt}
+use Rattle.meaning.proofs.Words.{bit-top, bit-under}
+use Rattle.meaning.proofs.Ways.{at-iff}
+use Rattle.meaning.proofs.Tests.{at-told, any-told, bool-told}
+use Rattle.evaluate.specs.Links.{leads, leadsTo}
+use Rattle.evaluate.specs.Pass.{Passed, Room, bitsOf}
+use Rattle.evaluate.specs.Steps.{ownStep, givenStep, aheadMark, Nearest}
+use Rattle.evaluate.specs.declared.ahead.Look.{Look}
+use Rattle.evaluate.specs.declared.ahead.Look.the-variants.{Any, Until, Every}
+use Rattle.evaluate.proofs.LinkLaws.{getD-any, leads-at, leads-down, leads-number, number-leads, leads-finds}
+use Rattle.evaluate.proofs.PassLaws.{at-put, passed-start, passed-same, passed-bit, passed-under, passed-rest, passed-set}
+use Rattle.evaluate.proofs.StepLaws.{at-leads, ahead-own, anyFrom, anyFrom-end, anyFrom-next, anyFrom-all}
+
+or-false : (x : Bool) → (x || false) ≡ x
+or-false true = refl
+or-false false = refl
+
+and-true : (x : Bool) → (x && true) ≡ x
+and-true true = refl
+and-true false = refl
+
+and-false : (x : Bool) → (x && false) ≡ false
+and-false true = refl
+and-false false = refl
+
+-- ---- whether an element leads here
+
+module _ (f : List ℕ) (t : ℕ) (l : t < length f) where
+  -- Where whoever is led to is led to from the very next element, one leads to t exactly where the number after t's is t.
+  nearest-child : ((s c : ℕ) → leads f c ≡ some s → leads f (suc s) ≡ some s)
+      → eqb (getD f (suc t) (length f)) t ≡ anyBelow (length f) (λ c. at (leads f c) (λ u. eqb u t))
+  nearest-child near =
+      told-same (eqb-told (getD f (suc t) (length f)) t) (any-told (length f) (λ c m. at-told (leads f c) (λ u q. eqb-told u t))) (to, from)
+    where
+      to : getD f (suc t) (length f) ≡ t → (c : ℕ) × (c < length f) × At (leads f c) (λ u. u ≡ t)
+      to e =
+          elim (decLt (suc t) (length f)) [
+            | yes m ↦ (suc t, m, at-iff (leads f (suc t)) (λ u. u ≡ t) .1 (t, number-leads f (suc t) t (length f) m (omega arith) e, refl))
+            | no h ↦ absurd (omega (arith, List·getD-eq-default f (length f) {n = suc t} (omega arith)))
+          ]
+
+      from : (c : ℕ) × (c < length f) × At (leads f c) (λ u. u ≡ t) → getD f (suc t) (length f) ≡ t
+      from (c, m, h) =
+          let r = at-iff (leads f c) (λ u. u ≡ t) .0 h in
+          leads-number f (suc t) t (length f) (near t c (r .1 ∙ ap some (r .2)))
+
+  child-is : (look : Look) → Nearest look f → (x y z : Bool)
+      → ownStep look x y z (eqb (getD f (suc t) (length f)) t) ≡ ownStep look x y z (anyBelow (length f) (λ c. at (leads f c) (λ u. eqb u t)))
+  unfolding Nearest
+  child-is Any near x y z = refl
+  child-is Until near x y z = refl
+  child-is Every near x y z = ap (ownStep Every x y z) (nearest-child near)
+
+-- ---- the pass
+
+module _ (look : Look) (f before : List ℕ) (a b : ℕ) where
+  -- The marks of the pass, what each element gives, and who gives to s.
+  abbrev pub marks : ℕ → Bool
+  marks = aheadMark look (length f) (leads f) (bitsOf before a) (bitsOf before b)
+
+  abbrev gives : ℕ → Bool
+  gives c = givenStep look (bitsOf before a c) (marks c)
+
+  abbrev gives-to : ℕ → ℕ → Bool
+  gives-to s c = at (leads f c) (λ u. eqb u s) && gives c
+
+  -- Bit i in the midst of the pass, when the elements from t on have had their turn.
+  abbrev pub midst : ℕ → ℕ → Bool
+  midst t s = cond (ltb s t) (anyFrom (length f) (gives-to s) t) (marks s)
+
+  -- Between two turns.
+  pub record AheadMid (i : ℕ) (after : List ℕ) (next t : ℕ) : Type 0 where
+    pub within : t ≤ length f
+    pub next-is : next ≡ getD f t (length f)
+    pub passed : Passed (length f) i (midst t) before after
+
+  pub ahead-start : {i : ℕ} → Room (length f) i before → AheadMid i before (length f) (length f)
+  ahead-start room =
+      record {
+        within = omega arith;
+        next-is = sym (List·getD-eq-default f (length f) (omega arith));
+        passed = passed-same room (λ s l. rw (lt-ltb s (length f) l) (sym (anyFrom-end (length f) (gives-to s)))) (passed-start room);
+      }
+
+  -- Before the turn of the last element that has not had it.
+  pub ahead-before : {i : ℕ} {after : List ℕ} {next t : ℕ} → 0 < t → AheadMid i after next t → AheadMid i after next (suc (t - 1))
+  ahead-before {i} {after} {next} {t} h m = let e : t ≡ suc (t - 1) = omega arith in subst (AheadMid i after next) e m
+
+  -- Who gives to s comes after it.
+  gives-after : (s c : ℕ) → gives-to s c ≡ true → suc s ≤ c
+  gives-after s c e =
+      let h = true-iff (and-told (at-told {P = λ u. u ≡ s} (leads f c) (λ u q. eqb-told u s)) (bool-told (gives c))) .0 e in
+      let r = at-iff (leads f c) (λ u. u ≡ s) .0 (h .0) in omega (arith, leads-down f c (r .0) (r .1), r .2)
+
+  module _ {i : ℕ} (room : Room (length f) i before) (la : a < i) (lb : b < i) (nearest : Nearest look f) (t : ℕ) (l : t < length f) where
+    abbrev p : ℕ
+    p = getD f t 0
+
+    module _ {after : List ℕ} {next : ℕ} (mid : AheadMid i after next (suc t)) where
+      abbrev w : ℕ
+      w = getD after t 0
+
+      abbrev own : Bool
+      own = ownStep look (bitAt w a) (bitAt w b) (bitAt w i) (eqb next t)
+
+      -- What has been gathered makes the element's mark.
+      own-is : own ≡ marks t
+      own-is =
+          rw (
+            passed-under room (mid .passed) t l a la,
+            passed-under room (mid .passed) t l b lb,
+            passed-bit room (mid .passed) t l,
+            lt-ltb t (suc t) (omega arith),
+            anyFrom-all (length f) (gives-to t) (suc t) (gives-after t),
+            mid .next-is,
+            child-is f t l look nearest,
+          )
+          (sym (ahead-own (leads-finds f) look (bitsOf before a) (bitsOf before b) t l))
+
+      abbrev word : ℕ
+      word = bit own * 2 ^ i + w % 2 ^ i
+
+      -- The words with that mark put.
+      abbrev after₁ : List ℕ
+      after₁ = set after t word
+
+      passed₁ : Passed (length f) i (at-put (midst (suc t)) t own) before after₁
+      passed₁ = passed-set room (mid .passed) t l own
+
+      -- The bits with that mark put: marks from t on, what is gathered before.
+      late : (s : ℕ) → t ≤ s → at-put (midst (suc t)) t own s ≡ marks s
+      late s h =
+          ⊎-elim (λ e. rw (← e, eq-eqb t t refl) own-is) (λ m. rw (ne-eqb s t (λ e. omega arith), le-ltb s (suc t) m)) (eq-or-lt-of-le h)
+
+      soon : (s : ℕ) → s < t → at-put (midst (suc t)) t own s ≡ anyFrom (length f) (gives-to s) (suc t)
+      soon s h = rw (ne-eqb s t (λ e. omega arith), lt-ltb s (suc t) (omega arith))
+
+      given-is : givenStep look (bitAt word a) (bitAt word i) ≡ gives t
+      given-is =
+          rw (passed-rest room (mid .passed) t l, bit-under i a own (getD before t 0) la, bit-top i own (getD before t 0) (room .small t l), own-is)
+
+      module _ (near : p ≤ t) where
+        abbrev v : ℕ
+        v = getD after₁ p 0
+
+        abbrev on : Bool
+        on = bitAt v i || (ltb p t && givenStep look (bitAt word a) (bitAt word i))
+
+        -- Giving to the element that the column leads to gathers there, and nowhere else.
+        led : (s : ℕ) → gives-to s t ≡ ((ltb p t && eqb p s) && gives t)
+        led s = rw (leads-at f t l, at-leads t p (λ u. eqb u s))
+
+        gathered : (s : ℕ) → at-put (at-put (midst (suc t)) t own) p on s ≡ (at-put (midst (suc t)) t own s || gives-to s t)
+        gathered s =
+            elim (ℕ-discrete s p) [
+              | yes e ↦ rw (e, led p, eq-eqb p p refl, and-true, passed-bit room passed₁ p (omega arith), given-is)
+              | no ne ↦ rw (ne-eqb s p ne, led s, ne-eqb p s (λ e. ne (sym e)), and-false) (sym (or-false _))
+            ]
+
+        not-late : (s : ℕ) → t ≤ s → gives-to s t ≡ false
+        not-late s h =
+            elim (decLt p t) [
+              | yes m ↦ rw (led s, ne-eqb p s (λ e. omega arith), and-false)
+              | no m ↦ rw (led s, le-ltb p t (omega arith))
+            ]
+
+        turned : (s : ℕ) → (at-put (midst (suc t)) t own s || gives-to s t) ≡ midst t s
+        turned s =
+            elim (decLt s t) [
+              | yes h ↦ rw (soon s h, lt-ltb s t h) (sym (anyFrom-next (length f) (gives-to s) t l))
+              | no h ↦ rw (late s (omega arith), not-late s (omega arith), le-ltb s t (omega arith)) (or-false (marks s))
+            ]
+
+        -- One turn.
+        pub ahead-turn : AheadMid i (set after₁ p (bit on * 2 ^ i + v % 2 ^ i)) p t
+        ahead-turn =
+            record {
+              within = omega arith;
+              next-is = getD-any f t 0 (length f) l;
+              passed = passed-same room (λ s h. gathered s ∙ turned s) (passed-set room passed₁ p (omega arith) on);
+            }
+
+  -- At the end every element has its mark.
+  pub ahead-end : {i : ℕ} {after : List ℕ} {next : ℕ} → Room (length f) i before → AheadMid i after next 0
+      → Passed (length f) i marks before after
+  ahead-end room mid = passed-same room (λ s l. rw (le-ltb s 0 (omega arith))) (mid .passed)

@@ -1,0 +1,250 @@
+-- The marks of each kind's pass are the meaning's; the words after each entry; the words as the list that is promised.
+-- Assumes nothing.
+use Prim.Native.Nat.{ℕ, zero, suc, pred, _+_, _*_, _^_, _-_, _≤_, _<_}
+use native.Mathlib.Decide.{decLt}
+use native.Mathlib.Nat.{le-of-suc-le-suc}
+use native.Mathlib.Numerals.{add-one}
+use native.Mathlib.Omega.{arith}
+use lib.Arith.{lt-of-le-ne}
+use mathlib.Core.Path.{_≡_, refl, sym, ap, subst, _∙_}
+use mathlib.Core.Bool.{Bool, true, false}
+use mathlib.Core.List.{List, [], _∷_, _++_}
+use mathlib.Core.Option.{Option, some}
+use lib.ListN.{length, getD, take, drop}
+use lib.Seq.{ext-getD, take-at, take-suc}
+use Rattle.records.specs.declared.rule.Entry.{Entry}
+use Rattle.records.specs.Tables.{over}
+use Rattle.records.proofs.TableLaws.{over-is, over-length, over-at, over-past}
+use Rattle.grammar.specs.Legal.{LegalLevels}
+use Rattle.grammar.specs.Rules.{noEntry, RuleEntries}
+use Rattle.grammar.proofs.Entries.{formed-kind, formed-a, formed-b}
+use Rattle.grammar.proofs.Tells.{Told, told-same}
+use Rattle.meaning.specs.Links.{parent, previous}
+use Rattle.meaning.specs.Meaning.{Kind, kindOf, nothing, always, hasLabel, negation, disjunction, conjunction, someChild, atParent, atNext, atPrevious, down, up, right, left, everyChild}
+use Rattle.meaning.specs.Marks.{bit, bitAt, means, mark, word, wordOf, words, selected}
+use Rattle.meaning.proofs.Tests.{bool-told}
+use Rattle.meaning.proofs.Reflect.{means-told}
+use Rattle.meaning.proofs.OneStep.{mark-rule, plain}
+use Rattle.meaning.proofs.Words.{word-bit, word-lt, words-length, words-at, selected-more}
+use Rattle.evaluate.specs.Links.{leads, Leads, Linked}
+use Rattle.evaluate.specs.Pass.{Stored, Passed, Room, bitsOf, Marked}
+use Rattle.evaluate.specs.Steps.{localMark, backMark, aheadMark, passMark, Nearest}
+use Rattle.evaluate.specs.Table.{tableOf, entryIn}
+use Rattle.evaluate.specs.declared.ahead.Look.{Look}
+use Rattle.evaluate.specs.declared.ahead.Look.the-variants.{Any, Until, Every}
+use Rattle.evaluate.proofs.LinkLaws.{ups-all, lefts-all, parent-next}
+use Rattle.evaluate.proofs.PassLaws.{stored-start, stored-same, passed-same}
+use Rattle.evaluate.proofs.TableLaws.{table-length, table-at}
+
+-- ---- the table of passes
+
+-- One number less of a range, at its start and at its end.
+pub range-past : {k m : ℕ} → m ≤ k → (k ≡ m → ⊥) → suc m ≤ k
+range-past l n = lt-of-le-ne l (λ e. n (sym e))
+
+pub range-under : {k m : ℕ} → k ≤ suc m → (k ≡ suc m → ⊥) → k ≤ m
+range-under l n = le-of-suc-le-suc (lt-of-le-ne l n)
+
+-- The table of passes along parents and previous siblings is the table of kinds.
+pub pass-means : (levels labels : List ℕ) (k : Kind) (l : ℕ) (a b : ℕ → Bool) (s : ℕ)
+    → passMark (length levels) labels (parent levels) (previous levels) k l a b s ≡ means levels labels k l a b s
+unfolding passMark means localMark backMark aheadMark
+pass-means levels labels nothing l a b s = refl
+pass-means levels labels always l a b s = refl
+pass-means levels labels hasLabel l a b s = refl
+pass-means levels labels negation l a b s = refl
+pass-means levels labels disjunction l a b s = refl
+pass-means levels labels conjunction l a b s = refl
+pass-means levels labels someChild l a b s = refl
+pass-means levels labels atParent l a b s = refl
+pass-means levels labels atNext l a b s = refl
+pass-means levels labels atPrevious l a b s = refl
+pass-means levels labels down l a b s = refl
+pass-means levels labels up l a b s = refl
+pass-means levels labels right l a b s = refl
+pass-means levels labels left l a b s = refl
+pass-means levels labels everyChild l a b s = refl
+
+-- The local kinds, 1 to 5, are the first rows of the table.
+pub pass-local : (n : ℕ) (labels : List ℕ) (ups lefts : ℕ → Option ℕ) (k l : ℕ) (a b : ℕ → Bool) (s : ℕ) → k ≤ 5
+    → localMark (kindOf k) l (getD labels s 0) (a s) (b s) ≡ passMark n labels ups lefts (kindOf k) l a b s
+unfolding passMark
+pass-local n labels ups lefts zero l a b s h = refl
+pass-local n labels ups lefts (suc zero) l a b s h = refl
+pass-local n labels ups lefts (suc (suc zero)) l a b s h = refl
+pass-local n labels ups lefts (suc (suc (suc zero))) l a b s h = refl
+pass-local n labels ups lefts (suc (suc (suc (suc zero)))) l a b s h = refl
+pass-local n labels ups lefts (suc (suc (suc (suc (suc zero))))) l a b s h = refl
+pass-local n labels ups lefts (suc (suc (suc (suc (suc (suc k)))))) l a b s h = absurd (omega arith)
+
+-- A column as long as there are elements has room for a pass where the elements have.
+pub column-room : {F : ℕ → Option ℕ} {n i : ℕ} {f ws : List ℕ} → length f ≡ n → Leads F n f → Room n i ws
+    → Room (length f) i ws × ((s : ℕ) → s < length f → getD f s 0 ≤ s)
+column-room e r room = rw e (room, r .near)
+
+module _ {levels ups lefts : List ℕ} (linked : Linked levels ups lefts) (labels : List ℕ) where
+  -- A pass of the table along the columns leaves what the kind means.
+  pub passed-means : {kind k i n : ℕ} {before after : List ℕ} (a b : ℕ) → Room (length levels) i before → kind ≡ k → n ≡ length levels
+      → Passed n i (passMark n labels (leads ups) (leads lefts) (kindOf k) a (bitsOf before a) (bitsOf before b)) before after
+      → Passed (length levels) i (means levels labels (kindOf kind) a (bitsOf before a) (bitsOf before b)) before after
+  passed-means {kind} {k} {i} {n} {before} {after} a b room e q r =
+      let r′ = rw (q, ups-all linked, lefts-all linked) at r in
+      passed-same room (λ s h. rw e (pass-means levels labels (kindOf k) a (bitsOf before a) (bitsOf before b) s)) r′
+
+  -- So does the pass of a local kind.
+  pub passed-local : {kind i : ℕ} {before after : List ℕ} (a b : ℕ) → Room (length levels) i before → kind ≤ 5
+      → length labels ≡ length levels
+      → Passed (length labels) i (λ s. localMark (kindOf kind) a (getD labels s 0) (bitsOf before a s) (bitsOf before b s)) before after
+      → Passed (length levels) i (means levels labels (kindOf kind) a (bitsOf before a) (bitsOf before b)) before after
+  passed-local {kind} {i} {before} {after} a b room h q r =
+      let r′ = rw q at r in
+      passed-same room (λ s l. pass-local (length levels) labels (parent levels) (previous levels) kind a (bitsOf before a) (bitsOf before b) s h
+      ∙ pass-means levels labels (kindOf kind) a (bitsOf before a) (bitsOf before b) s) r′
+
+  -- Parents are led to from the very next element.
+  pub ups-nearest : LegalLevels levels → Nearest Every ups
+  unfolding Nearest
+  ups-nearest legal = rw (ups-all linked) (parent-next levels legal)
+
+-- ---- the entries
+
+-- A kind asks a and b at elements only.
+pub means-same : (levels labels : List ℕ) (k : Kind) (l : ℕ) (a a′ b b′ : ℕ → Bool)
+    → ((t : ℕ) → t < length levels → a t ≡ a′ t) → ((t : ℕ) → t < length levels → b t ≡ b′ t) → (s : ℕ) → s < length levels
+    → means levels labels k l a b s ≡ means levels labels k l a′ b′ s
+means-same levels labels k l a a′ b b′ ea eb s h =
+    told-same (means-told levels labels l _ _ a b (λ t m. bool-told (a t)) (λ t m. bool-told (b t)) s h k)
+    (means-told levels labels l (λ t. a t ≡ true) (λ t. b t ≡ true) a′ b′ (λ t m. subst (Told (a t ≡ true)) (ea t m) (bool-told (a t)))
+    (λ t m. subst (Told (b t ≡ true)) (eb t m) (bool-told (b t))) s h k)
+    (λ x. x, λ x. x)
+
+module _ (levels labels : List ℕ) (entries : List Entry) where
+  -- The marks of the first i entries at an element, as a word.
+  abbrev pub wordUpTo : ℕ → ℕ → ℕ
+  wordUpTo i s = word i (λ j. mark levels labels entries j s)
+
+  abbrev entry : ℕ → Entry
+  entry i = getD entries i noEntry
+
+  -- Over the marks of the entries before it, an entry's row is its mark.
+  row-mark : RuleEntries entries → (i : ℕ) → i < length entries → (ws : List ℕ)
+      → ((s : ℕ) → s < length levels → getD ws s 0 ≡ wordUpTo i s) → (s : ℕ) → s < length levels
+      → means levels labels (kindOf (entry i .kind)) (entry i .a) (bitsOf ws (entry i .a)) (bitsOf ws (entry i .b)) s ≡ mark levels labels entries i s
+  row-mark rule i l ws e s h =
+      let f = rule .formed i l in
+      rw (mark-rule levels labels entries rule i l)
+      (elim (decLt (entry i .kind) 3) [
+        | yes m ↦ ap (λ (g : ℕ → Bool). g s) (plain levels labels entries (entry i .kind) _ _ _ _ _ (formed-kind i (entry i) f .0) m)
+        | no m ↦
+            let at : (j : ℕ) → j < i → (t : ℕ) → t < length levels → bitsOf ws j t ≡ mark levels labels entries j t =
+            λ j k t q. rw (e t q) (word-bit i j (λ j. mark levels labels entries j t) k) in
+            means-same levels labels (kindOf (entry i .kind)) (entry i .a) _ _ _ _ (at (entry i .a) (formed-a i (entry i) f (omega arith)))
+            (at (entry i .b) (formed-b i (entry i) f (omega arith))) s h
+      ])
+
+  -- One entry more.
+  pub entry-turn : RuleEntries entries → (i : ℕ) → i < length entries → {before ws after : List ℕ}
+      → Stored (length levels) (wordUpTo i) before ws
+      → Passed (length levels) i (means levels labels (kindOf (entry i .kind)) (entry i .a) (bitsOf ws (entry i .a)) (bitsOf ws (entry i .b))) ws after
+      → Stored (length levels) (wordUpTo (i + 1)) before after
+  unfolding word
+  entry-turn rule i l {before} {ws} {after} r p =
+      record {
+        long = p .stored .long ∙ r .long;
+        put = λ s h. p .stored .put s h ∙ rw (add-one i, row-mark rule i l ws (r .put) s h, r .put s h);
+        kept = λ s h. p .stored .kept s h ∙ r .kept s h;
+      }
+
+  -- Before any entry the words are 0, and before entry i they have bits below i only.
+  pub words-start : {before : List ℕ} → Room (length levels) 0 before → Stored (length levels) (wordUpTo 0) before before
+  unfolding word
+  words-start room =
+      stored-same (length levels) _ (λ s l. let h = room .small s l in omega arith) (stored-start (length levels) _)
+
+  pub words-room : {i : ℕ} {before ws : List ℕ} → Room (length levels) 0 before → i < 64 → Stored (length levels) (wordUpTo i) before ws
+      → Room (length levels) i ws
+  words-room {i} room l r =
+      record {
+        few = room .few;
+        room = omega (arith, room .room, r .long);
+        top = l;
+        small = λ s h. rw (r .put s h) (word-lt i _);
+      }
+
+  -- The words as the list that is promised.
+  pub words-over : {before after : List ℕ} → length levels ≤ length before
+      → Stored (length levels) (wordOf entries levels labels) before after → after ≡ over (words entries levels labels) before
+  words-over {before} {after} room r =
+      let n = words-length entries levels labels in
+      ext-getD 0 after _ (r .long ∙ sym (over-length (words entries levels labels) before)) (λ s h.
+      elim (decLt s (length levels)) [
+        | yes l ↦
+            r .put s l ∙ sym (words-at entries levels labels s l) ∙ sym (over-at (words entries levels labels) before (omega arith) s (omega arith))
+        | no l ↦ r .kept s (omega arith) ∙ sym (over-past (words entries levels labels) before (omega arith) s (omega arith))
+      ])
+
+  -- The words and their count.
+  pub marked-of : {before after : List ℕ} (m r : ℕ) → length levels ≤ length before → length entries ≡ m
+      → Stored (length levels) (wordOf entries levels labels) before after → r ≡ selected m (take (length levels) after)
+      → Marked entries levels labels before r after
+  marked-of {before} {after} m r room e w c =
+      let n = words-length entries levels labels in
+      let o = words-over room w in
+      record {
+        marks-are = o;
+        selected-is =
+            c ∙ rw (← e, o, over-is (words entries levels labels) before (omega arith))
+            (ap (selected (length entries)) (take-at (words entries levels labels) _ (length levels) n));
+      }
+
+-- ---- the entries of a table
+
+module _ (n : ℕ) (kinds firsts seconds : List ℕ) (rule : RuleEntries (tableOf n kinds firsts seconds)) where
+  -- A rule in a table has 1 to 64 entries.
+  pub table-few : (1 ≤ n) × (n ≤ 64)
+  table-few = let e = table-length kinds firsts seconds n in (omega (arith, rule .nonempty), omega (arith, rule .few))
+
+  module _ (i : ℕ) (l : i < n) where
+    within : i < length (tableOf n kinds firsts seconds)
+    within = omega (arith, table-length kinds firsts seconds n)
+
+    -- The numbers in its columns are what an entry of its kind may have.
+    pub table-fits : (1 ≤ getD kinds i 0) × (getD kinds i 0 ≤ 14) × (3 ≤ getD kinds i 0 → (getD firsts i 0 < i) × (getD seconds i 0 < i))
+    table-fits =
+        let f = rw (table-at kinds firsts seconds n i l) at (rule .formed i within) in
+        let e = entryIn kinds firsts seconds i in
+        (formed-kind i e f .0, formed-kind i e f .1, λ h. (formed-a i e f h, formed-b i e f h))
+
+    -- One entry more.
+    pub table-turn : (levels labels : List ℕ) {before ws after : List ℕ}
+        → Stored (length levels) (wordUpTo levels labels (tableOf n kinds firsts seconds) i) before ws
+        → Passed (length levels) i (means levels labels (kindOf (getD kinds i 0)) (getD firsts i 0) (bitsOf ws (getD firsts i 0)) (bitsOf ws (getD seconds i 0))) ws after
+        → Stored (length levels) (wordUpTo levels labels (tableOf n kinds firsts seconds) (i + 1)) before after
+    table-turn levels labels r p =
+        entry-turn levels labels (tableOf n kinds firsts seconds) rule i within r (rw (table-at kinds firsts seconds n i l) p)
+
+  -- After the last entry each word is its element's.
+  pub table-end : (levels labels : List ℕ) {before ws : List ℕ} (i : ℕ) → i ≡ n
+      → Stored (length levels) (wordUpTo levels labels (tableOf n kinds firsts seconds) i) before ws
+      → Stored (length levels) (wordOf (tableOf n kinds firsts seconds) levels labels) before ws
+  unfolding wordOf
+  table-end levels labels i e r =
+      stored-same (length levels) _ (λ s l. ap (λ (k : ℕ). wordUpTo levels labels (tableOf n kinds firsts seconds) k s)
+      (e ∙ sym (table-length kinds firsts seconds n))) r
+
+-- ---- counting
+
+bit-small : (b : Bool) → bit b ≤ 1
+bit-small true = omega arith
+bit-small false = omega arith
+
+-- One word more: its bit is counted, so no more words than were passed.
+pub count-turn : (m s count : ℕ) (ws : List ℕ) → s < length ws → count ≡ selected m (take s ws) → count ≤ s
+    → (count + bit (bitAt (getD ws s 0) (m - 1)) ≡ selected m (take (s + 1) ws)) × (count + bit (bitAt (getD ws s 0) (m - 1)) ≤ s + 1)
+count-turn m s count ws l e h =
+    let p : m - 1 ≡ pred m = less-one m in
+    (rw (add-one s, take-suc ws s 0 l, selected-more, e, p), omega (arith, bit-small (bitAt (getD ws s 0) (m - 1))))
+  where
+    less-one : (m : ℕ) → m - 1 ≡ pred m
+    less-one zero = refl
+    less-one (suc m) = omega arith

@@ -1,0 +1,208 @@
+-- `mark_entry`: each kind has its pass, and the pass leaves what the kind means. Assumes nothing.
+use mathlib.Core.List.{[]}
+use Rattle.evaluate.specs.Steps.{passMark, Nearest}
+use Rattle.evaluate.proofs.KindLaws.{range-under, column-room, passed-means, passed-local, ups-nearest}
+use borrow.Author.Needs.{needs}
+use native.Mathlib.Omega.{arith}
+use Rattle.evaluate.proofs.entry.mark_entry.Statement.{statement}
+use Rattle.evaluate.proofs.entry.mark_entry.Tie as tie
+
+ahead-pass-requires : tie.Need-ahead-pass-requires
+unfolding Nearest
+ahead-pass-requires c κs =
+    let p = c .before .before .before .before .before .before .before .pre in
+    let k = p .1 .1 .1 .0 in
+    let r = column-room (k .ups-long) (k .ups-lead) (p .1 .0) in (p .0 .2 (omega (arith, c .before .match .keys1)), (r .0, (r .1, tt)))
+
+back-pass-requires : tie.Need-back-pass-requires
+back-pass-requires c κs =
+    let p = c .before .before .before .before .before .before .before .pre in
+    let k = p .1 .1 .1 .0 in
+    let r = column-room (k .ups-long) (k .ups-lead) (p .1 .0) in (p .0 .2 (omega (arith, c .before .match .keys2)), r)
+
+ahead-pass-requires-2 : tie.Need-ahead-pass-requires-2
+unfolding Nearest
+ahead-pass-requires-2 c κs =
+    let p = c .before .before .before .before .before .before .before .pre in
+    let k = p .1 .1 .1 .0 in
+    let r = column-room (k .lefts-long) (k .lefts-lead) (p .1 .0) in (p .0 .2 (omega (arith, c .before .match .keys3)), (r .0, (r .1, tt)))
+
+back-pass-requires-2 : tie.Need-back-pass-requires-2
+back-pass-requires-2 c κs =
+    let p = c .before .before .before .before .before .before .before .pre in
+    let k = p .1 .1 .1 .0 in
+    let r = column-room (k .lefts-long) (k .lefts-lead) (p .1 .0) in (p .0 .2 (omega (arith, c .before .match .keys4)), r)
+
+ahead-pass-requires-3 : tie.Need-ahead-pass-requires-3
+unfolding Nearest
+ahead-pass-requires-3 c κs =
+    let p = c .before .before .before .before .before .before .before .pre in
+    let k = p .1 .1 .1 .0 in
+    let r = column-room (k .ups-long) (k .ups-lead) (p .1 .0) in (p .0 .2 (omega (arith, c .before .match .keys5)), (r .0, (r .1, tt)))
+
+back-pass-requires-3 : tie.Need-back-pass-requires-3
+back-pass-requires-3 c κs =
+    let p = c .before .before .before .before .before .before .before .pre in
+    let k = p .1 .1 .1 .0 in
+    let r = column-room (k .ups-long) (k .ups-lead) (p .1 .0) in (p .0 .2 (omega (arith, c .before .match .keys6)), r)
+
+ahead-pass-requires-4 : tie.Need-ahead-pass-requires-4
+unfolding Nearest
+ahead-pass-requires-4 c κs =
+    let p = c .before .before .before .before .before .before .before .pre in
+    let k = p .1 .1 .1 .0 in
+    let r = column-room (k .lefts-long) (k .lefts-lead) (p .1 .0) in (p .0 .2 (omega (arith, c .before .match .keys7)), (r .0, (r .1, tt)))
+
+back-pass-requires-4 : tie.Need-back-pass-requires-4
+back-pass-requires-4 c κs =
+    let p = c .before .before .before .before .before .before .before .pre in
+    let k = p .1 .1 .1 .0 in
+    let r = column-room (k .lefts-long) (k .lefts-lead) (p .1 .0) in (p .0 .2 (omega (arith, c .before .match .keys8)), r)
+
+ahead-pass-requires-5 : tie.Need-ahead-pass-requires-5
+ahead-pass-requires-5 c κs =
+    let p = c .before .before .before .before .before .before .before .pre in
+    let k = p .1 .1 .1 .0 in
+    let r = column-room (k .ups-long) (k .ups-lead) (p .1 .0) in (p .0 .2 (omega (arith, c .before .match .keys9)), (r .0, (r .1, ups-nearest k [] (p .1 .1 .0))))
+
+local-pass-requires : tie.Need-local-pass-requires
+local-pass-requires c κs =
+    let p = c .before .before .before .before .before .before .before .pre in
+    let r = c .before .match .rest in
+    let h = range-under (range-under (range-under (range-under (range-under (range-under (range-under (range-under (range-under (p .0 .1) (r .1)) (r .0 .1)) (r .0 .0 .1)) (r .0 .0 .0 .1)) (r .0 .0 .0 .0 .1)) (r .0 .0 .0 .0 .0 .1)) (r .0 .0 .0 .0 .0 .0 .1)) (r .0 .0 .0 .0 .0 .0 .0 .1)) (r .0 .0 .0 .0 .0 .0 .0 .0 .1) in
+    ((p .0 .0, h), rw (p .1 .1 .1 .1) (p .1 .0))
+
+same-length : tie.Need-same-length
+same-length c = search needs
+
+returns : tie.Need-returns
+unfolding passMark
+returns c =
+    let p = c .before .before .before .before .before .before .before .before .before .before .pre in
+    let k = p .1 .1 .1 .0 in
+    passed-means k _ _ _ (p .1 .0) (c .before .before .before .before .match .keys1) (k .ups-long) (c .before .before .ahead-pass .ensures)
+
+same-length-2 : tie.Need-same-length-2
+same-length-2 c = search needs
+
+returns-2 : tie.Need-returns-2
+unfolding passMark
+returns-2 c =
+    let p = c .before .before .before .before .before .before .before .before .before .before .pre in
+    let k = p .1 .1 .1 .0 in
+    passed-means k _ _ _ (p .1 .0) (c .before .before .before .before .match .keys2) (k .ups-long) (c .before .before .back-pass .ensures)
+
+same-length-3 : tie.Need-same-length-3
+same-length-3 c = search needs
+
+returns-3 : tie.Need-returns-3
+unfolding passMark
+returns-3 c =
+    let p = c .before .before .before .before .before .before .before .before .before .before .pre in
+    let k = p .1 .1 .1 .0 in
+    passed-means k _ _ _ (p .1 .0) (c .before .before .before .before .match .keys3) (k .lefts-long) (c .before .before .ahead-pass2 .ensures)
+
+same-length-4 : tie.Need-same-length-4
+same-length-4 c = search needs
+
+returns-4 : tie.Need-returns-4
+unfolding passMark
+returns-4 c =
+    let p = c .before .before .before .before .before .before .before .before .before .before .pre in
+    let k = p .1 .1 .1 .0 in
+    passed-means k _ _ _ (p .1 .0) (c .before .before .before .before .match .keys4) (k .lefts-long) (c .before .before .back-pass2 .ensures)
+
+same-length-5 : tie.Need-same-length-5
+same-length-5 c = search needs
+
+returns-5 : tie.Need-returns-5
+unfolding passMark
+returns-5 c =
+    let p = c .before .before .before .before .before .before .before .before .before .before .pre in
+    let k = p .1 .1 .1 .0 in
+    passed-means k _ _ _ (p .1 .0) (c .before .before .before .before .match .keys5) (k .ups-long) (c .before .before .ahead-pass3 .ensures)
+
+same-length-6 : tie.Need-same-length-6
+same-length-6 c = search needs
+
+returns-6 : tie.Need-returns-6
+unfolding passMark
+returns-6 c =
+    let p = c .before .before .before .before .before .before .before .before .before .before .pre in
+    let k = p .1 .1 .1 .0 in
+    passed-means k _ _ _ (p .1 .0) (c .before .before .before .before .match .keys6) (k .ups-long) (c .before .before .back-pass3 .ensures)
+
+same-length-7 : tie.Need-same-length-7
+same-length-7 c = search needs
+
+returns-7 : tie.Need-returns-7
+unfolding passMark
+returns-7 c =
+    let p = c .before .before .before .before .before .before .before .before .before .before .pre in
+    let k = p .1 .1 .1 .0 in
+    passed-means k _ _ _ (p .1 .0) (c .before .before .before .before .match .keys7) (k .lefts-long) (c .before .before .ahead-pass4 .ensures)
+
+same-length-8 : tie.Need-same-length-8
+same-length-8 c = search needs
+
+returns-8 : tie.Need-returns-8
+unfolding passMark
+returns-8 c =
+    let p = c .before .before .before .before .before .before .before .before .before .before .pre in
+    let k = p .1 .1 .1 .0 in
+    passed-means k _ _ _ (p .1 .0) (c .before .before .before .before .match .keys8) (k .lefts-long) (c .before .before .back-pass4 .ensures)
+
+same-length-9 : tie.Need-same-length-9
+same-length-9 c = search needs
+
+returns-9 : tie.Need-returns-9
+unfolding passMark
+returns-9 c =
+    let p = c .before .before .before .before .before .before .before .before .before .before .pre in
+    let k = p .1 .1 .1 .0 in
+    passed-means k _ _ _ (p .1 .0) (c .before .before .before .before .match .keys9) (k .ups-long) (c .before .before .ahead-pass5 .ensures)
+
+same-length-10 : tie.Need-same-length-10
+same-length-10 c = search needs
+
+returns-10 : tie.Need-returns-10
+returns-10 c =
+    let p = c .before .before .before .before .before .before .before .before .before .before .pre in
+    let r = c .before .before .before .before .match .rest in
+    let h = range-under (range-under (range-under (range-under (range-under (range-under (range-under (range-under (range-under (p .0 .1) (r .1)) (r .0 .1)) (r .0 .0 .1)) (r .0 .0 .0 .1)) (r .0 .0 .0 .0 .1)) (r .0 .0 .0 .0 .0 .1)) (r .0 .0 .0 .0 .0 .0 .1)) (r .0 .0 .0 .0 .0 .0 .0 .1)) (r .0 .0 .0 .0 .0 .0 .0 .0 .1) in
+    passed-local (p .1 .1 .1 .0) _ _ _ (p .1 .0) h (p .1 .1 .1 .1) (c .before .before .local-pass .ensures)
+
+pub mark-entry-spec : {M : Type 1} → statement M
+mark-entry-spec =
+    tie.close
+    (tie.spec
+    ahead-pass-requires
+    back-pass-requires
+    ahead-pass-requires-2
+    back-pass-requires-2
+    ahead-pass-requires-3
+    back-pass-requires-3
+    ahead-pass-requires-4
+    back-pass-requires-4
+    ahead-pass-requires-5
+    local-pass-requires
+    same-length
+    returns
+    same-length-2
+    returns-2
+    same-length-3
+    returns-3
+    same-length-4
+    returns-4
+    same-length-5
+    returns-5
+    same-length-6
+    returns-6
+    same-length-7
+    returns-7
+    same-length-8
+    returns-8
+    same-length-9
+    returns-9
+    same-length-10
+    returns-10)

@@ -1,0 +1,63 @@
+-- The whole-report evaluator: number, place, elements and selected, and the mark buffer afterwards. Document 01, "Numbers given
+-- back", with its order, and demand 2.
+-- Shuts out: a refusal that writes; 9 before 6; an invented count; a word past the last element written.
+-- Laws: proofs/Evaluated.antt. Assumes nothing.
+use Prim.Native.Nat.{ℕ}
+use mathlib.Core.Path.{_≡_}
+use mathlib.Core.Bool.{cond}
+use mathlib.Core.List.{List, []}
+use lib.Dec.{ltb, eqb}
+use lib.ListN.{length}
+use Rattle.records.specs.Rule.{ruleAnswer}
+use Rattle.records.specs.Report.{reportAnswer}
+use Rattle.records.specs.Tables.{entriesOf, labelsOf, levelsOf, over}
+use Rattle.records.specs.declared.answer.Answer.{Answer}
+use Rattle.records.specs.declared.rule.Entry.{Entry}
+use Rattle.records.specs.declared.answer.Answer.the-variants.{Accepted, Refused}
+use Rattle.meaning.specs.Marks.{words, selected}
+use Rattle.evaluate.specs.declared.evaluate.Evaluation.{Evaluation}
+
+-- Accepted: number 0, place 0, how many elements there are and how many are selected.
+abbrev pub accepted : ℕ → ℕ → Evaluation
+accepted elements selected = record { number = 0; place = 0; elements = elements; selected = selected }
+
+-- Refused: the number and the place; elements and selected are 0.
+abbrev pub refused : ℕ → ℕ → Evaluation
+refused number place = record { number = number; place = place; elements = 0; selected = 0 }
+
+-- The order: what the rule reader answers, then what the report reader answers, then 9 where the buffer has fewer words than there
+-- are elements. `count` is the selected count of an accepted rule and report.
+unfoldable pub judged : Answer → Answer → (room count : ℕ) → Evaluation
+judged (Refused number place) report room count = refused number place
+judged (Accepted entries) (Refused number place) room count = refused number place
+judged (Accepted entries) (Accepted elements) room count = cond (ltb room elements) (refused 9 0) (accepted elements count)
+
+module _ (rule report : List ℕ) where
+  -- The words that the meaning gives the elements, in order.
+  unfoldable pub meantWords : List ℕ
+  meantWords = words (entriesOf rule) (levelsOf report) (labelsOf report)
+
+  -- What is answered, the buffer having so many words.
+  unfoldable pub evaluation : ℕ → Evaluation
+  evaluation room = judged (ruleAnswer rule) (reportAnswer report) room (selected (length (entriesOf rule)) meantWords)
+
+  -- What is written: the meaning's words where rule and report are accepted and there is room, nothing where they are refused.
+  unfoldable pub written : ℕ → List ℕ
+  written room = cond (eqb (evaluation room .number) 0) meantWords []
+
+-- The promise: the answer, and the buffer with what is written in its first places and the rest as it was.
+pub record Evaluated (rule report marks : List ℕ) (r : Evaluation) (marks′ : List ℕ) : Type 0 where
+  pub answer : r ≡ evaluation rule report (length marks)
+  pub marks-are : marks′ ≡ over (written rule report (length marks)) marks
+
+-- ---- the same once the rule has been read: its entries are es
+
+-- What is answered, and what is left in the buffer, for a report.
+pub record Reported (es : List Entry) (report marks : List ℕ) (r : Evaluation) (marks′ : List ℕ) : Type 0 where
+  pub answer : r ≡ judged (Accepted (length es)) (reportAnswer report) (length marks) (selected (length es) (words es (levelsOf report) (labelsOf report)))
+  pub marks-are : marks′ ≡ over (cond (eqb (r .number) 0) (words es (levelsOf report) (labelsOf report)) []) marks
+
+-- And once the report has been read: it has these levels and labels, n of them.
+pub record Weighed (es : List Entry) (levels labels marks : List ℕ) (r : Evaluation) (marks′ : List ℕ) : Type 0 where
+  pub answer : r ≡ cond (ltb (length marks) (length levels)) (refused 9 0) (accepted (length levels) (selected (length es) (words es levels labels)))
+  pub marks-are : marks′ ≡ over (cond (ltb (length marks) (length levels)) [] (words es levels labels)) marks

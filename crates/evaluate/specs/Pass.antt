@@ -1,0 +1,37 @@
+-- What a pass over the mark words leaves: the words of the first n elements, and past them what stood there.
+-- Shuts out: a word past the last element written; another entry's bit changed.
+-- Laws: proofs/PassLaws.antt. Assumes nothing.
+use Prim.Native.Nat.{ℕ, _+_, _*_, _^_, _≤_, _<_}
+use mathlib.Core.Path.{_≡_}
+use mathlib.Core.Bool.{Bool}
+use mathlib.Core.List.{List}
+use lib.ListN.{length, getD, take}
+use Rattle.records.specs.declared.rule.Entry.{Entry}
+use Rattle.records.specs.Tables.{over}
+use Rattle.meaning.specs.Marks.{bit, bitAt, words, selected}
+
+-- The first n words after are w, and the others are as before.
+pub record Stored (n : ℕ) (w : ℕ → ℕ) (before after : List ℕ) : Type 0 where
+  pub long : length after ≡ length before
+  pub put : (s : ℕ) → s < n → getD after s 0 ≡ w s
+  pub kept : (s : ℕ) → n ≤ s → getD after s 0 ≡ getD before s 0
+
+-- Bit i of the first n words is m, above the bits that stood there.
+pub record Passed (n i : ℕ) (m : ℕ → Bool) (before after : List ℕ) : Type 0 where
+  pub stored : Stored n (λ s. bit (m s) * 2 ^ i + getD before s 0) before after
+
+-- A pass for entry i over the first n words has room: there are n words, they have bits below i only, and i is a bit of a word.
+pub record Room (n i : ℕ) (ws : List ℕ) : Type 0 where
+  pub few : n ≤ 4096
+  pub room : n ≤ length ws
+  pub top : i < 64
+  pub small : (s : ℕ) → s < n → getD ws s 0 < 2 ^ i
+
+-- Bit a of each word.
+abbrev pub bitsOf : List ℕ → ℕ → ℕ → Bool
+bitsOf ws a s = bitAt (getD ws s 0) a
+
+-- What marking a report answers and leaves: the words of its elements and past them what stood there, and the selected count.
+pub record Marked (entries : List Entry) (levels labels before : List ℕ) (r : ℕ) (after : List ℕ) : Type 0 where
+  pub marks-are : after ≡ over (words entries levels labels) before
+  pub selected-is : r ≡ selected (length entries) (words entries levels labels)

@@ -1,0 +1,40 @@
+// Kinds 7, 9, 11 and 13: what the element before, to which a column leads, has.
+ghost use mathlib.Core.Path.{_≡_};
+ghost use mathlib.Core.Bool.{_&&_};
+ghost use Prim.Native.Nat.{ℕ, _+_, _*_, _^_, _%_, _≤_, _<_};
+ghost use lib.ListN.{length, getD};
+ghost use Rattle.meaning.specs.Marks.{bit, bitAt};
+ghost use Rattle.evaluate.specs.Links.{leads};
+ghost use Rattle.evaluate.specs.Pass.{Passed, Room, bitsOf};
+ghost use Rattle.evaluate.specs.Steps.{backStep, backMark};
+use crate::word::bit_at;
+use crate::word::wide;
+use crate::word::with_bit;
+
+// The word of an element, with the mark of entry i: `there` says that its column leads on, to an
+// element with the word v.
+fn back_word(until: bool, a: usize, b: usize, i: usize, there: bool, v: u64, w: u64) -> u64
+    requires { ⌜ i < 64 ⌝ }
+    ensures { λ r. ⌜ r ≡ bit (backStep until (bitAt w a) (bitAt w b) (there && bitAt v a) (there && bitAt v i)) * 2 ^ i + w % 2 ^ i ⌝ }
+{
+    if until {
+        with_bit(w, i, bit_at(w, b) | (bit_at(w, a) & (there & bit_at(v, i))))
+    } else {
+        with_bit(w, i, there & bit_at(v, a))
+    }
+}
+
+// Entry i at every element, from the first on: each has its mark before one that leads to it.
+pub(crate) fn back_pass(until: bool, a: usize, b: usize, i: usize, f: &[u16], marks: &mut [u64])
+    requires { ⌜ (a < i) × (b < i) ⌝ }
+    requires { ⌜ Room (length (now f)) i (now marks) ⌝ }
+    requires { ⌜ ((s : ℕ) → s < length (now f) → getD (now f) s 0 ≤ s) ⌝ }
+    ensures { λ _. ⌜ Passed (length (now (f .entry))) i (backMark until (leads (now (f .entry))) (bitsOf (now (marks .entry)) a) (bitsOf (now (marks .entry)) b)) (now (marks .entry)) (now (marks .exit)) ⌝ }
+{
+    let mut s: usize = 0;
+    while s < f.len() {
+        let p = wide(f[s]);
+        marks[s] = back_word(until, a, b, i, p < s, marks[p], marks[s]);
+        s += 1;
+    }
+}

@@ -1,0 +1,119 @@
+// From bytes to marks: the readers' tables, the marking, and the answer.
+ghost use mathlib.Core.Path.{_≡_};
+ghost use Prim.Native.Nat.{_≤_};
+ghost use lib.ListN.{length, take};
+ghost use Rattle.grammar.specs.Legal.{LegalLevels};
+ghost use Rattle.grammar.specs.Rules.{RuleEntries};
+ghost use Rattle.evaluate.specs.Evaluation.{refused, Evaluated, Reported, Weighed};
+ghost use Rattle.evaluate.specs.Table.{tableOf};
+use crate::elements::mark_elements;
+use records::answer::Answer;
+use records::tables::fill_elements;
+use records::tables::fill_entries;
+
+// What a whole report is answered: document 01's number, the place, how many elements there are and
+// how many of them are selected. Refused: elements and selected are 0.
+#[repr(C)]
+pub struct Evaluation {
+    pub number: u32,
+    pub place: u32,
+    pub elements: u32,
+    pub selected: u32,
+}
+
+// A refusal.
+fn refuse(number: u32, place: usize) -> Evaluation
+    requires { ⌜ place ≤ 40960 ⌝ }
+    ensures { λ r. ⌜ r ≡ refused number place ⌝ }
+{
+    Evaluation {
+        number: number,
+        place: place as u32,
+        elements: 0,
+        selected: 0,
+    }
+}
+
+// Marks the n elements of an accepted report, if the buffer has room for them.
+fn weigh(
+    entries: usize,
+    kinds: &[u16],
+    firsts: &[u16],
+    seconds: &[u16],
+    n: usize,
+    labels: &[u16],
+    levels: &[u16],
+    marks: &mut [u64],
+) -> Evaluation
+    requires { ⌜ RuleEntries (tableOf entries (now kinds) (now firsts) (now seconds)) ⌝ }
+    requires { ⌜ (entries ≤ length (now kinds)) × (entries ≤ length (now firsts)) × (entries ≤ length (now seconds)) ⌝ }
+    requires { ⌜ LegalLevels (take n (now levels)) ⌝ }
+    requires { ⌜ (n ≤ length (now labels)) × (n ≤ length (now levels)) × (n ≤ 4096) ⌝ }
+    ensures { λ r. ⌜ Weighed (tableOf entries (now (kinds .entry)) (now (firsts .entry)) (now (seconds .entry))) (take n (now (levels .entry))) (take n (now (labels .entry))) (now (marks .entry)) r (now (marks .exit)) ⌝ }
+{
+    if marks.len() < n {
+        return refuse(9, 0);
+    }
+    let mut ups = [0u16; 4096];
+    let mut lefts = [0u16; 4096];
+    let selected = mark_elements(
+        entries,
+        kinds,
+        firsts,
+        seconds,
+        n,
+        labels,
+        levels,
+        &mut ups,
+        &mut lefts,
+        marks,
+    );
+    Evaluation {
+        number: 0,
+        place: 0,
+        elements: n as u32,
+        selected: selected as u32,
+    }
+}
+
+// Evaluates a report with an accepted rule's tables.
+fn evaluate_report(
+    entries: usize,
+    kinds: &[u16],
+    firsts: &[u16],
+    seconds: &[u16],
+    report: &[u8],
+    marks: &mut [u64],
+) -> Evaluation
+    requires { ⌜ RuleEntries (tableOf entries (now kinds) (now firsts) (now seconds)) ⌝ }
+    requires { ⌜ (entries ≤ length (now kinds)) × (entries ≤ length (now firsts)) × (entries ≤ length (now seconds)) ⌝ }
+    ensures { λ r. ⌜ Reported (tableOf entries (now (kinds .entry)) (now (firsts .entry)) (now (seconds .entry))) (now (report .entry)) (now (marks .entry)) r (now (marks .exit)) ⌝ }
+{
+    let mut labels = [0u16; 4096];
+    let mut levels = [0u16; 4096];
+    match fill_elements(report, &mut labels, &mut levels) {
+        Answer::Accepted(n) => weigh(entries, kinds, firsts, seconds, n, &labels, &levels, marks),
+        Answer::Refused(number, place) => refuse(number, place),
+    }
+}
+
+// Evaluates a rule on a report: a word for each element into the first words of the lent buffer.
+#[no_mangle]
+pub extern "C" fn pz_evaluate(rule: &[u8], report: &[u8], marks: &mut [u64]) -> Evaluation
+    ensures { λ r. ⌜ Evaluated (now (rule .entry)) (now (report .entry)) (now (marks .entry)) r (now (marks .exit)) ⌝ }
+{
+    let mut kinds = [0u16; 64];
+    let mut firsts = [0u16; 64];
+    let mut seconds = [0u16; 64];
+    match fill_entries(rule, &mut kinds, &mut firsts, &mut seconds) {
+        Answer::Accepted(entries) => evaluate_report(
+            entries,
+            &kinds,
+            &firsts,
+            &seconds,
+            report,
+            marks,
+        ),
+        Answer::Refused(number, place) => refuse(number, place),
+    }
+}
