@@ -1,8 +1,10 @@
-/* polonezar.h: the readers of Polonezar, for C and C++.
+/* polonezar.h: Polonezar for C and C++.
  *
- * This file describes the readers' library, librecords.a: it reads a rule or a report, each a byte
- * string, and says whether it is accepted, and if not, why and where. There are two functions,
- * pz_read_rule and pz_read_report. What each answers is proved of its code.
+ * A rule and a report are byte strings. The readers, pz_read_rule and pz_read_report, say whether one
+ * is accepted, and if not, why and where; they are in the library of the crate records, which ships
+ * alone. pz_evaluate, in the library of the crate evaluate, marks the elements of a report at which
+ * each entry of a rule holds. What each function answers and leaves in lent memory is proved of its
+ * code for every input: nothing has to be checked before a call.
  *
  * Records. A number in a rule or a report has two bytes, the low byte first. A record is a length
  * (how many bytes follow the length), a kind, and a body of numbers; so a record takes 2 bytes more
@@ -19,13 +21,14 @@
  *     kinds 4, 5, 10, 11, 12 and 13   length 6, body two entry numbers
  *   An entry number in a body is below the number of the entry that it stands in.
  *
- * What a caller owes, and nothing checks: the pointer is valid for reading as many bytes as the
- * length says, and nobody writes those bytes during the call. A length is at most PTRDIFF_MAX.
- * NULL with length 0 has been tried with both functions and is fine: it is an empty string. NULL
- * with another length is the caller's fault.
+ * What a caller owes, and nothing checks: each pointer is valid for as many bytes (words, for marks)
+ * as its length says, marks is aligned for uint64_t, lent buffers do not overlap, and nobody else
+ * writes what is lent, or reads what is lent to be written, during the call. A length in bytes is at
+ * most PTRDIFF_MAX. NULL with length 0 has been tried with every function and is fine: it is an empty
+ * string, or a buffer of no words. NULL with another length is the caller's fault.
  *
- * Both functions only read what they are lent, keep no pointer, allocate nothing, print nothing,
- * always return, and may be called from several threads at once.
+ * No function keeps a pointer, allocates, prints or fails to return, and all may be called from
+ * several threads at once, each with buffers of its own. pz_evaluate needs some 40 KiB of stack.
  */
 #ifndef POLONEZAR_H
 #define POLONEZAR_H
@@ -48,8 +51,8 @@ enum pz_size {
     PZ_LABEL_MOST = 999
 };
 
-/* The numbers given back. pz_read_rule gives 0 to 4; pz_read_report gives 0 and 5 to 8. The numbers
- * 9 to 12 are those of calls that this library does not have; neither function gives them. */
+/* The numbers given back. pz_read_rule gives 0 to 4; pz_read_report gives 0 and 5 to 8; pz_evaluate
+ * gives 0 to 9. The numbers 10 to 12 are those of calls that are not here yet. */
 enum pz_number {
     PZ_ACCEPTED = 0,          /* taken as it is */
     PZ_RULE_SIZE = 1,         /* the rule is empty, or longer than 512 bytes */
@@ -99,6 +102,27 @@ struct pz_rule_reply pz_read_rule(const uint8_t *rule, size_t rule_len);
  * by these rows too. Where no record is faulty and an element is open at the end, 7; else 0.
  * Promise: reportReply (crates/records/specs/Reply.antt). */
 struct pz_report_reply pz_read_report(const uint8_t *report, size_t report_len);
+
+/* What pz_evaluate gives. */
+struct pz_evaluation {
+    uint32_t number;          /* 0 accepted, else why not: 1 to 9 of pz_number */
+    uint32_t place;           /* as the readers give it; 0 for 1, 5 and 9 */
+    uint32_t elements;        /* how many elements the report has; 0 where anything is refused */
+    uint32_t selected;        /* at how many of them the rule's last entry holds; 0 where anything is refused */
+};
+
+/* Evaluates a rule on a report. Lent for this call: rule and report, only read; marks, a buffer of
+ * `words` 64-bit words, written where all is accepted. Nothing is kept.
+ * Gives: number 0, place 0, the elements and the selected count; bit i of marks[s] is then 1 exactly
+ * where entry i holds at element s (elements are numbered from 0 in order of opening), its bits past
+ * the last entry are 0, and words past the last element are as they were. Else the number and its
+ * place, elements and selected 0, and marks as it was.
+ * Order: what pz_read_rule gives for the rule, then what pz_read_report gives for the report, then 9
+ * where the report has more elements than there are words.
+ * Promise: Evaluated (crates/evaluate/specs/Evaluation.antt). */
+struct pz_evaluation pz_evaluate(const uint8_t *rule, size_t rule_len,
+                                 const uint8_t *report, size_t report_len,
+                                 uint64_t *marks, size_t words);
 
 #ifdef __cplusplus
 }
