@@ -1,0 +1,316 @@
+-- THE THEOREM of demand 3, `verdict-agrees`, over the promises of start, open and close: each opening that is accepted gets the
+-- meaning's verdict of that element, in every accepted report that begins with the tags accepted so far.
+-- Beside it: `goes-on` (there is such a report), `refused-kept` and `refused-left-out` (refused calls change nothing), and
+-- `report-fed` (feeding an accepted report's tags gives the last entry's bit of the meaning's word at each opening).
+-- Assumes nothing.
+use Prim.Native.Nat.{ℕ, suc, pred, _≤_, _<_, suc-le-suc}
+use native.Mathlib.Omega.{arith}
+use borrow.Author.Tests.{eq-eqb, eqb-true, eqb-false, ne-eqb}
+use mathlib.Core.Path.{_≡_, refl, sym, ap, subst, _∙_}
+use mathlib.Core.Bool.{Bool, true, false, cond, not, _&&_, _||_}
+use mathlib.Core.List.{List, [], _∷_, _++_, append-assoc, append-nil}
+use lib.Dec.{eqb}
+use lib.ListN.{length, getD, replicate}
+use Rattle.records.specs.declared.answer.Answer.{Answer}
+use Rattle.records.specs.declared.answer.Answer.the-variants.{Accepted, Refused}
+use Rattle.records.specs.declared.rule.Entry.{Entry}
+use Rattle.records.specs.Answer.{countOf}
+use Rattle.records.specs.Kinds.{looksBack}
+use Rattle.records.specs.Report.{reportAnswer, tagsOf as tagsIn}
+use Rattle.records.specs.Rule.{ruleAnswer}
+use Rattle.records.specs.Tables.{entriesOf, levelsOf, labelsOf}
+use Rattle.records.specs.Tags.{Tag, opens, closes, opened, levels, labels}
+use Rattle.grammar.specs.Bytes.{Bytes}
+use Rattle.grammar.specs.Legal.{Fit}
+use Rattle.grammar.specs.Rules.{noEntry, RuleEntries}
+use Rattle.grammar.proofs.Elements.{accepted-legal, levels-accepted, labels-accepted}
+use Rattle.grammar.specs.Reports.{bytesOf}
+use Rattle.grammar.proofs.ReportBytes.{accepted-tree, tags-are}
+use Rattle.grammar.proofs.Trees.{bytes-append}
+use Rattle.grammar.proofs.Entries.{entries-count, entries-few, entries-some, entry-formed}
+use Rattle.meaning.specs.Marks.{bit, bitAt, wordOf, verdict}
+use Rattle.meaning.specs.OnePass.{State, fresh, LooksBack, fault, openedVerdict, after, afterAll, Taken}
+use Rattle.meaning.proofs.Agrees.{verdict-agrees as table-agrees}
+use Rattle.meaning.proofs.Taken.{taken-append, taken-fit, after-append}
+use Rattle.onepass.specs.Calls.{Call, Promised, Calls, done, then, tagsOf, taken, takenTags, Begins}
+use Rattle.onepass.specs.State.{stateSize, stateOf, Good}
+use Rattle.onepass.specs.Step.{reply, startAnswer, startAfter, written, looksAhead, callNumber, entriesAnswer, entriesAfter, answerOf, stateAfter, Started, Opened}
+use Rattle.onepass.specs.declared.export.StepReply.{StepReply}
+use Rattle.onepass.proofs.StateLaws.{zeros-fresh, zeros-good, zeros-bytes}
+use Rattle.onepass.proofs.CallLaws.{call-taken, call-number, written-state, written-good, written-bytes}
+use Rattle.onepass.proofs.Begins.{report-begins, fit-goes-on}
+
+-- ---- one call
+
+-- What a call promises, open or close: the answer and the bytes after it.
+promised-both : (rule s : List ℕ) (t : Tag) {r : StepReply} {next : List ℕ} → Promised rule s t r next
+    → (r ≡ answerOf rule s t) × (next ≡ stateAfter rule s t)
+promised-both rule s (opens l) p = (p .answer, p .state-is)
+promised-both rule s closes p = (p .answer, p .state-is)
+
+-- A call that is not answered 0 leaves the state as it was.
+pub refused-kept : (rule s : List ℕ) (t : Tag) (r : StepReply) (next : List ℕ) → Promised rule s t r next → (r .number ≡ 0 → ⊥) → next ≡ s
+unfolding answerOf stateAfter entriesAnswer entriesAfter
+refused-kept rule s t r next p n = go (ruleAnswer rule) refl where
+  go : (a : Answer) → ruleAnswer rule ≡ a → next ≡ s
+  go (Accepted m) e =
+      let b = promised-both rule s t p in
+      let k : r .number ≡ callNumber (entriesOf rule) s t = ap (λ (x : StepReply). x .number) (b .0) ∙ rw e in
+      b .1 ∙ rw (e, ne-eqb (callNumber (entriesOf rule) s t) 0 (λ z. n (k ∙ z)))
+  go (Refused k q) e = promised-both rule s t p .1 ∙ rw e
+
+left-out-one : {rule s next end : List ℕ} (c : Call) (cs : List Call) → Promised rule s (c .tag) (c .answer) next
+    → Calls rule next (taken cs) end → Calls rule s (taken (c ∷ cs)) end
+unfolding taken
+left-out-one {rule} {s} {next} {end} c cs p more = go (eqb (c .answer .number) 0) refl where
+  go : (b : Bool) → eqb (c .answer .number) 0 ≡ b → Calls rule s (cond b (c ∷ taken cs) (taken cs)) end
+  go true e = then p more
+  go false e = subst (λ (x : List ℕ). Calls rule x (taken cs) end) (refused-kept rule s (c .tag) (c .answer) next p (eqb-false _ 0 e)) more
+
+-- So the calls that are answered 0 lead to the same state by themselves.
+pub refused-left-out : {rule s end : List ℕ} {cs : List Call} → Calls rule s cs end → Calls rule s (taken cs) end
+unfolding taken
+refused-left-out done = done
+refused-left-out (then {c = c} {cs = cs} p more) = left-out-one c cs p (refused-left-out more)
+
+-- A sequence of calls splits at each of them.
+pub calls-split : {rule end : List ℕ} (before : List Call) (c : Call) (later : List Call) (s : List ℕ) → Calls rule s (before ++ (c ∷ later)) end
+    → (mid next : List ℕ) × Calls rule s before mid × Promised rule mid (c .tag) (c .answer) next × Calls rule next later end
+calls-split [] c later s (then {next = next} p more) = (s, next, done, p, more)
+calls-split (b ∷ before) c later s (then {next = next} p more) =
+    let r = calls-split before c later next more in (r .0, r .1, then p (r .2), r .3, r .4)
+
+-- The tags of calls one after the other.
+tags-append : (cs ds : List Call) → tagsOf (cs ++ ds) ≡ tagsOf cs ++ tagsOf ds
+unfolding tagsOf
+tags-append [] ds = refl
+tags-append (c ∷ cs) ds = ap (λ (ts : List Tag). c .tag ∷ ts) (tags-append cs ds)
+
+-- Where all calls are answered 0, so are those before a call, and the call itself.
+taken-few : (cs : List Call) → length (taken cs) ≤ length cs
+unfolding taken
+taken-few [] = omega arith
+taken-few (c ∷ cs) = go (eqb (c .answer .number) 0) (taken-few cs) where
+  go : (b : Bool) → length (taken cs) ≤ length cs → length (cond b (c ∷ taken cs) (taken cs)) ≤ suc (length cs)
+  go true l = suc-le-suc l
+  go false l = omega arith
+
+taken-head : (c : Call) (cs : List Call) → taken (c ∷ cs) ≡ c ∷ cs → (c .answer .number ≡ 0) × (taken cs ≡ cs)
+unfolding taken
+taken-head c cs e = go (eqb (c .answer .number) 0) refl e where
+  go : (b : Bool) → eqb (c .answer .number) 0 ≡ b → cond b (c ∷ taken cs) (taken cs) ≡ c ∷ cs → (c .answer .number ≡ 0) × (taken cs ≡ cs)
+  go true q f = (eqb-true _ 0 q, cc)
+  go false q f = absurd (omega (arith, taken-few cs, ap length f))
+
+taken-split : (before : List Call) (c : Call) (later : List Call) → taken (before ++ (c ∷ later)) ≡ before ++ (c ∷ later)
+    → (taken before ≡ before) × (c .answer .number ≡ 0)
+unfolding taken
+taken-split [] c later e = (refl, taken-head c later e .0)
+taken-split (b ∷ before) c later e =
+    let h = taken-head b (before ++ (c ∷ later)) e in
+    let r = taken-split before c later (h .1) in
+    (rw (eq-eqb (b .answer .number) 0 (h .0), r .0), r .1)
+
+-- ---- a rule that looks back only
+
+-- The entries of an accepted rule are a rule's.
+pub rule-entries : (rule : List ℕ) (m : ℕ) → ruleAnswer rule ≡ Accepted m → RuleEntries (entriesOf rule)
+rule-entries rule m e =
+    record {
+      nonempty = omega (arith, entries-some rule m e, entries-count rule, ap countOf e);
+      few = entries-few rule;
+      formed = entry-formed rule;
+    }
+
+-- No entry looks ahead exactly where every entry looks back.
+back-ahead : (es : List Entry) → LooksBack es → looksAhead es ≡ false
+unfolding looksAhead
+back-ahead [] h = refl
+back-ahead (e ∷ es) h = rw (h 0 (omega arith), back-ahead es (λ i l. h (suc i) (omega arith)))
+
+-- ---- the states that start leads to
+
+module _ (rule : List ℕ) (m : ℕ) (accepted : ruleAnswer rule ≡ Accepted m) (back : LooksBack (entriesOf rule)) where
+  abbrev es : List Entry
+  es = entriesOf rule
+
+  -- The bytes are the state after the tags, which the table takes; they pass the test.
+  pub record Reached (ts : List Tag) (s : List ℕ) : Type 0 where
+    pub good : Good s
+    pub bytes : Bytes s
+    pub state-is : stateOf s ≡ afterAll es fresh ts
+    pub taken-are : Taken es fresh ts
+
+  -- A call in such a state is answered the tag's own fault.
+  reached-number : (ts : List Tag) (s : List ℕ) → Reached ts s → (t : Tag) → callNumber es s t ≡ fault (afterAll es fresh ts) t
+  reached-number ts s h t = call-number es s t (back-ahead es back) (h .good) ∙ rw (h .state-is)
+
+  answer-number : (s : List ℕ) (t : Tag) {r : StepReply} → r ≡ answerOf rule s t → r .number ≡ callNumber es s t
+  unfolding answerOf entriesAnswer
+  answer-number s t e = ap (λ (x : StepReply). x .number) e ∙ rw accepted
+
+  state-written : (s : List ℕ) (t : Tag) → callNumber es s t ≡ 0 → stateAfter rule s t ≡ written es s t
+  unfolding stateAfter entriesAfter
+  state-written s t z = rw (accepted, z)
+
+  -- A call that is answered 0 leads on by its tag.
+  reached-taken : (ts : List Tag) (s : List ℕ) → Reached ts s → (t : Tag) → callNumber es s t ≡ 0 → Reached (ts ++ (t ∷ [])) (written es s t)
+  unfolding Taken afterAll
+  reached-taken ts s h t z =
+      let f = call-taken es s t z .1 .1 in
+      let few = entries-few rule in
+      record {
+        good = written-good es s few (h .good) t f;
+        bytes = written-bytes es s few (h .good) (h .bytes) t;
+        state-is = written-state es s few (h .good) (h .bytes) t f ∙ rw (h .state-is, after-append es ts (t ∷ []) fresh);
+        taken-are = taken-append es ts (t ∷ []) fresh .1 (h .taken-are, (sym (reached-number ts s h t) ∙ z, tt));
+      }
+
+  -- A call leads on by its tag, or stays.
+  reached-call : (ts : List Tag) (s next : List ℕ) (c : Call) → Reached ts s → Promised rule s (c .tag) (c .answer) next
+      → Reached (ts ++ takenTags (c ∷ [])) next
+  unfolding taken tagsOf
+  reached-call ts s next c h p = go (eqb (c .answer .number) 0) refl where
+    go : (b : Bool) → eqb (c .answer .number) 0 ≡ b → Reached (ts ++ tagsOf (cond b (c ∷ []) [])) next
+    go true e =
+        let q = promised-both rule s (c .tag) p in
+        let z = sym (answer-number s (c .tag) (q .0)) ∙ eqb-true _ 0 e in
+        subst (Reached (ts ++ (c .tag ∷ []))) (sym (q .1 ∙ state-written s (c .tag) z)) (reached-taken ts s h (c .tag) z)
+    go false e =
+        rw (append-nil ts) (subst (Reached ts) (sym (refused-kept rule s (c .tag) (c .answer) next p (eqb-false _ 0 e))) h)
+
+  taken-more : (c : Call) (cs : List Call) → takenTags (c ∷ cs) ≡ takenTags (c ∷ []) ++ takenTags cs
+  unfolding taken tagsOf
+  taken-more c cs = go (eqb (c .answer .number) 0) where
+    go : (b : Bool) → tagsOf (cond b (c ∷ taken cs) (taken cs)) ≡ tagsOf (cond b (c ∷ []) []) ++ tagsOf (taken cs)
+    go true = refl
+    go false = refl
+
+  -- Calls lead on by the tags of those that are answered 0.
+  pub reached-along : (ts : List Tag) {s end : List ℕ} {cs : List Call} → Reached ts s → Calls rule s cs end → Reached (ts ++ takenTags cs) end
+  unfolding taken tagsOf
+  reached-along ts h done = rw (append-nil ts) h
+  reached-along ts {s = s} h (then {next = next} {c = c} {cs = cs} p more) =
+      rw (taken-more c cs, ← append-assoc) (reached-along (ts ++ takenTags (c ∷ [])) (reached-call ts s next c h p) more)
+
+  -- Calls whose tags the table takes are all answered 0.
+  all-taken : (ts : List Tag) {s end : List ℕ} {cs : List Call} → Reached ts s → Calls rule s cs end
+      → Taken es (afterAll es fresh ts) (tagsOf cs) → taken cs ≡ cs
+  unfolding Taken afterAll taken tagsOf
+  all-taken ts h done f = refl
+  all-taken ts {s = s} h (then {next = next} {c = c} {cs = cs} p more) f =
+      let q = promised-both rule s (c .tag) p in
+      let z = reached-number ts s h (c .tag) ∙ f .0 in
+      let n = answer-number s (c .tag) (q .0) ∙ z in
+      let go-on = subst (Reached (ts ++ (c .tag ∷ []))) (sym (q .1 ∙ state-written s (c .tag) z)) (reached-taken ts s h (c .tag) z) in
+      rw (eq-eqb (c .answer .number) 0 n) (ap (λ (x : List Call). c ∷ x)
+      (all-taken (ts ++ (c .tag ∷ [])) go-on more (rw (after-append es ts (c .tag ∷ []) fresh) (f .1))))
+
+  -- ---- from a started state
+
+  module _ (given start : List ℕ) (r₀ : StepReply) (started : Started given r₀ start) (begun : r₀ .number ≡ 0) where
+    start-zeros : start ≡ replicate stateSize 0
+    unfolding startAnswer startAfter
+    start-zeros = go (eqb (length given) stateSize) (started .answer) (started .state-is) where
+      go : (b : Bool) → r₀ ≡ cond b (reply 0 0 0) (reply 11 0 0) → start ≡ cond b (replicate stateSize 0) given → start ≡ replicate stateSize 0
+      go true e f = f
+      go false e f = absurd (omega (arith, begun, ap (λ (x : StepReply). x .number) e))
+
+    -- What start writes is the fresh state.
+    pub started-state : stateOf start ≡ fresh
+    started-state = rw start-zeros (zeros-fresh stateSize)
+
+    started-reached : Reached [] start
+    unfolding Taken afterAll
+    started-reached =
+        record {
+          good = rw start-zeros zeros-good;
+          bytes = rw start-zeros (zeros-bytes stateSize);
+          state-is = started-state;
+          taken-are = tt;
+        }
+
+    -- Whatever the calls, the state that they lead to passes the test, and is the table's after the tags of those that are answered 0.
+    pub calls-reached : {end : List ℕ} {cs : List Call} → Calls rule start cs end → Reached (takenTags cs) end
+    calls-reached calls = reached-along [] started-reached calls
+
+    -- ---- an opening that is accepted
+
+    module _ (before : List Call) (label : ℕ) (r : StepReply) (later : List Call) (end : List ℕ)
+        (calls : Calls rule start (before ++ (record { tag = opens label; answer = r } ∷ later)) end) (zero : r .number ≡ 0) where
+      abbrev tags : List Tag
+      tags = takenTags before
+
+      abbrev parts : (mid next : List ℕ) × Calls rule start before mid × Opened rule mid label r next × Calls rule next later end
+      parts = calls-split before (record { tag = opens label; answer = r }) later start calls
+
+      number-zero : callNumber es (parts .0) (opens label) ≡ 0
+      number-zero = sym (answer-number (parts .0) (opens label) (parts .3 .answer)) ∙ zero
+
+      verdict-is : r .verdict ≡ bit (openedVerdict es (afterAll es fresh tags) label)
+      unfolding answerOf entriesAnswer
+      verdict-is =
+          ap (λ (x : StepReply). x .verdict) (parts .3 .answer) ∙ rw (accepted, number-zero, calls-reached (parts .2) .state-is)
+
+      -- THE THEOREM: its verdict is the meaning's verdict of the element whose number is the count of openings accepted before, in
+      -- every report that the report reader accepts and whose bytes begin with the accepted tags' bytes.
+      pub verdict-agrees : (report : List ℕ) (n : ℕ) → Begins (tags ++ (opens label ∷ [])) report n
+          → r .verdict ≡ bit (verdict (entriesOf rule) (levelsOf report) (labelsOf report) (opened tags))
+      verdict-agrees report n b =
+          let q = report-begins (tags ++ (opens label ∷ [])) report n b in
+          let all : tagsIn report ≡ tags ++ (opens label ∷ q .0) = q .1 ∙ append-assoc tags (opens label ∷ []) (q .0) in
+          verdict-is
+          ∙ ap bit (table-agrees es (rule-entries rule m accepted) back tags label (q .0) (calls-reached (parts .2) .taken-are))
+          ∙ rw (levels-accepted report n (b .accepted), labels-accepted report n (b .accepted), all)
+
+      -- There is such a report.
+      pub goes-on : (report : List ℕ) × (n : ℕ) × Begins (tags ++ (opens label ∷ [])) report n
+      goes-on =
+          let h = reached-taken tags (parts .0) (calls-reached (parts .2)) (opens label) number-zero in
+          fit-goes-on (tags ++ (opens label ∷ [])) (taken-fit es _ .0 (h .taken-are)) (some tags)
+        where
+          some : (ts : List Tag) → ts ++ (opens label ∷ []) ≡ [] → ⊥
+          some [] e = let z : _≡_ {A = ℕ} 0 1 = cc in omega arith
+          some (t ∷ ts) e = let z : _≡_ {A = ℕ} 0 1 = cc in omega arith
+
+    -- ---- feeding an accepted report
+
+    module _ (report : List ℕ) (n : ℕ) (bytes : Bytes report) (taken-report : reportAnswer report ≡ Accepted n)
+        (cs : List Call) (end : List ℕ) (calls : Calls rule start cs end) (fed : tagsOf cs ≡ tagsIn report) where
+      -- Every call is answered 0.
+      pub report-taken : taken cs ≡ cs
+      unfolding afterAll
+      report-taken =
+          all-taken [] started-reached calls
+          (rw fed (taken-fit es (tagsIn report) .1 (accepted-legal report n taken-report .fit)))
+
+      fed-begins : (before : List Call) (c : Call) (later : List Call) → cs ≡ before ++ (c ∷ later)
+          → Begins (tagsOf before ++ (c .tag ∷ [])) report n
+      unfolding tagsOf
+      fed-begins before c later e =
+          let t = accepted-tree report bytes n taken-report in
+          let split : tagsIn report ≡ tagsOf before ++ (c .tag ∷ tagsOf later) = sym fed ∙ ap tagsOf e ∙ tags-append before (c ∷ later) in
+          record {
+            bytes = bytes;
+            accepted = taken-report;
+            rest = bytesOf (tagsOf later);
+            begins = sym (bytes-append (tagsOf before ++ (c .tag ∷ [])) (tagsOf later))
+                ∙ ap bytesOf (append-assoc (tagsOf before) (c .tag ∷ []) (tagsOf later) ∙ sym split ∙ tags-are report (t .0) (t .1) (t .2))
+                ∙ sym (t .1);
+          }
+
+      -- At each opening the verdict is the last entry's bit of the meaning's word of that element.
+      pub report-fed : (before : List Call) (label : ℕ) (r : StepReply) (later : List Call)
+          → cs ≡ before ++ (record { tag = opens label; answer = r } ∷ later)
+          → (r .number ≡ 0)
+          × (r .verdict
+          ≡ bit (bitAt (wordOf (entriesOf rule) (levelsOf report) (labelsOf report) (opened (tagsOf before))) (pred (length (entriesOf rule)))))
+      unfolding verdict tagsOf taken
+      report-fed before label r later e =
+          let c : Call = record { tag = opens label; answer = r } in
+          let q = taken-split before c later (sym (ap taken e) ∙ report-taken ∙ e) in
+          let tags : takenTags before ≡ tagsOf before = ap tagsOf (q .0) in (
+            q .1,
+            verdict-agrees before label r later end (subst (λ (x : List Call). Calls rule start x end) e calls) (q .1) report n
+                (rw tags (fed-begins before c later e)) ∙ rw tags,
+          )

@@ -1,0 +1,47 @@
+-- `pz_close` reads the rule into the columns, and goes on with them where it is accepted. Assumes nothing.
+use native.Mathlib.Omega.{arith}
+use mathlib.Core.Path.{refl, sym, _∙_}
+use Rattle.onepass.proofs.CodeLaws.{filled-entries, accepted-range, refused-place, accepted-call, refused-call}
+use borrow.Author.Needs.{needs}
+use Rattle.onepass.proofs.export.pz_close.Statement.{statement}
+use Rattle.onepass.proofs.export.pz_close.Tie as tie
+
+fill-entries-requires : tie.Need-fill-entries-requires
+fill-entries-requires c κs = search needs
+
+enum-known-n : tie.Need-enum-known-n
+enum-known-n c = search needs
+
+close-entries-requires : tie.Need-close-entries-requires
+close-entries-requires c κs = accepted-range _ _ _ (c .before .before .before .before .before .before .before .fill-entries .ensures .answer) (c .before .before .before .before .before .n .given .1) .1
+
+enum-known-number : tie.Need-enum-known-number
+enum-known-number c = search needs
+
+cast-t19 : tie.Need-cast-t19
+cast-t19 c = omega (arith, refused-place _ _ _ _ (c .before .before .before .fill-entries .ensures .answer) (c .before .number .given .1))
+
+same-length : tie.Need-same-length
+same-length c = search needs
+
+returns : tie.Need-returns
+returns c =
+    let e = filled-entries _ _ _ _ _ _ _ _ _ (c .before .before .before .before .before .before .before .before .before .before .fill-entries .ensures) (c .before .before .before .before .before .before .before .before .n .given .1) refl refl refl in
+    let r = accepted-call _ _ _ _ _ _ (sym (c .before .before .before .before .before .before .before .before .before .before .fill-entries .ensures .answer) ∙ c .before .before .before .before .before .before .before .before .n .given .1) (rw e at (c .before .before .close-entries .ensures)) in
+    record { answer = r .0; state-is = r .1 }
+
+returns-2 : tie.Need-returns-2
+returns-2 c = let r = refused-call _ _ _ _ _ (sym (c .before .before .before .fill-entries .ensures .answer) ∙ c .before .number .given .1) in record { answer = r .0; state-is = r .1 }
+
+pub pz-close-spec : {M : Type 1} → statement M
+pz-close-spec =
+    tie.close
+    (tie.spec
+    fill-entries-requires
+    enum-known-n
+    close-entries-requires
+    enum-known-number
+    cast-t19
+    same-length
+    returns
+    returns-2)

@@ -1,0 +1,20 @@
+-- `pz_start` writes zeros into a state of the right length. Assumes nothing.
+use Rattle.onepass.proofs.CodeLaws.{start-refused, start-done}
+use borrow.Author.Needs.{needs}
+use Rattle.onepass.proofs.export.pz_start.Statement.{statement}
+use Rattle.onepass.proofs.export.pz_start.Tie as tie
+
+returns : tie.Need-returns
+returns c = start-refused _ (c .if1 .taken)
+
+clear-requires : tie.Need-clear-requires
+clear-requires c κs = search needs
+
+same-length : tie.Need-same-length
+same-length c = search needs
+
+returns-2 : tie.Need-returns-2
+returns-2 c = start-done _ _ (c .before .before .before .before .if1 .left) (c .before .before .clear .ensures)
+
+pub pz-start-spec : {M : Type 1} → statement M
+pz-start-spec = tie.close (tie.spec returns clear-requires same-length returns-2)

@@ -1,0 +1,25 @@
+-- `mark_presence` stores the presence word with the bit set. Assumes nothing.
+use Rattle.onepass.specs.Step.{marked}
+use borrow.Author.Needs.{needs}
+use Rattle.onepass.proofs.state.mark_presence.Statement.{statement}
+use Rattle.onepass.proofs.state.mark_presence.Tie as tie
+
+word-at-requires : tie.Need-word-at-requires
+word-at-requires c κs = search needs
+
+with-bit-requires : tie.Need-with-bit-requires
+with-bit-requires c κs = search needs
+
+put-word-requires : tie.Need-put-word-requires
+put-word-requires c κs = search needs
+
+same-length : tie.Need-same-length
+same-length c = search needs
+
+returns : tie.Need-returns
+unfolding marked
+returns c = rw (c .before .before .put-word .ensures, c .before .before .before .with-bit .ensures, c .before .before .before .before .before .word-at .ensures)
+
+pub mark-presence-spec : {M : Type 1} → statement M
+mark-presence-spec =
+    tie.close (tie.spec word-at-requires with-bit-requires put-word-requires same-length returns)

@@ -1,0 +1,51 @@
+-- `store_opening` stores word, presence word, depth and elements, one after the other. Assumes nothing.
+use Rattle.onepass.specs.Step.{openedBytes}
+use borrow.Author.Needs.{needs}
+use Rattle.onepass.proofs.state.store_opening.Statement.{statement}
+use Rattle.onepass.proofs.state.store_opening.Tie as tie
+
+mul-put-word : tie.Need-mul-put-word
+mul-put-word c = search needs
+
+add-put-word : tie.Need-add-put-word
+add-put-word c = search needs
+
+put-word-requires : tie.Need-put-word-requires
+put-word-requires c κs = search needs
+
+clear-presence-requires : tie.Need-clear-presence-requires
+clear-presence-requires c κs = search needs
+
+add-put-number : tie.Need-add-put-number
+add-put-number c = search needs
+
+put-number-requires : tie.Need-put-number-requires
+put-number-requires c κs = search needs
+
+add-put-number-2 : tie.Need-add-put-number-2
+add-put-number-2 c = search needs
+
+put-number-requires-2 : tie.Need-put-number-requires-2
+put-number-requires-2 c κs = search needs
+
+same-length : tie.Need-same-length
+same-length c = search needs
+
+returns : tie.Need-returns
+unfolding openedBytes
+returns c = rw (c .before .before .put-number2 .ensures, c .before .before .before .before .before .before .put-number .ensures, c .before .before .before .before .before .before .before .before .before .before .clear-presence .ensures, c .before .before .before .before .before .before .before .before .before .before .before .before .before .before .put-word .ensures)
+
+pub store-opening-spec : {M : Type 1} → statement M
+store-opening-spec =
+    tie.close
+    (tie.spec
+    mul-put-word
+    add-put-word
+    put-word-requires
+    clear-presence-requires
+    add-put-number
+    put-number-requires
+    add-put-number-2
+    put-number-requires-2
+    same-length
+    returns)

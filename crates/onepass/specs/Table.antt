@@ -1,0 +1,15 @@
+-- The tables of a rule: three columns, and the entries that stand in their first places.
+-- Laws: proofs/TableLaws.antt. Assumes nothing.
+use Prim.Native.Nat.{ℕ, zero, suc}
+use mathlib.Core.List.{List, [], _∷_, _++_}
+use lib.ListN.{getD}
+use Rattle.records.specs.declared.rule.Entry.{Entry}
+
+-- The entry at a place of the columns.
+abbrev pub entryIn : (kinds firsts seconds : List ℕ) → ℕ → Entry
+entryIn kinds firsts seconds i = record { kind = getD kinds i 0; a = getD firsts i 0; b = getD seconds i 0 }
+
+-- The entries in the first n places of the columns.
+unfoldable pub tableOf : ℕ → (kinds firsts seconds : List ℕ) → List Entry
+tableOf zero kinds firsts seconds = []
+tableOf (suc n) kinds firsts seconds = tableOf n kinds firsts seconds ++ (entryIn kinds firsts seconds n ∷ [])

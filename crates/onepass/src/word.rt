@@ -1,0 +1,28 @@
+// Bits of a word.
+ghost use mathlib.Core.Path.{_≡_};
+ghost use Prim.Native.Nat.{_+_, _*_, _^_, _<_};
+ghost use Rattle.meaning.specs.Marks.{bit, bitAt};
+ghost use Rattle.onepass.specs.Bytes.{withBit};
+
+// Bit a of a word; there is none from 64 on.
+pub(crate) fn bit_at(w: u64, a: usize) -> bool
+    ensures { λ r. ⌜ r ≡ bitAt w a ⌝ }
+{
+    if a < 64 { (w >> a) % 2 == 1 } else { false }
+}
+
+// A word of the bits below i, with bit i added.
+pub(crate) fn add_bit(w: u64, i: usize, on: bool) -> u64
+    requires { ⌜ (i < 64) × (w < 2 ^ i) ⌝ }
+    ensures { λ r. ⌜ r ≡ bit on * 2 ^ i + w ⌝ }
+{
+    w | ((on as u64) << i)
+}
+
+// A word with bit i set or cleared.
+pub(crate) fn with_bit(w: u64, i: usize, on: bool) -> u64
+    requires { ⌜ i < 64 ⌝ }
+    ensures { λ r. ⌜ r ≡ withBit i on w ⌝ }
+{
+    w - (((w >> i) % 2) << i) + ((on as u64) << i)
+}

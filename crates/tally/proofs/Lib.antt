@@ -1,0 +1,2 @@
+-- The tally's laws.
+pub mod Laws

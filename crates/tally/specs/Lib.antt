@@ -1,0 +1,2 @@
+-- The tally's specification.
+pub mod Tally

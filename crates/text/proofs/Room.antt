@@ -1,0 +1,58 @@
+-- How long the lines can be, and that the buffer has room for all of them.
+-- Assumes nothing.
+use Prim.Native.Nat.{ℕ, zero, suc, _+_, _*_, _^_, _≤_, _<_}
+use native.Mathlib.Omega.{arith}
+use mathlib.Core.Path.{_≡_, refl, sym, ap, _∙_}
+use mathlib.Core.Bool.{Bool, true, false}
+use mathlib.Core.List.{List, [], _∷_, _++_}
+use lib.ListN.{length, length-append}
+use Rattle.meaning.specs.Marks.{bit}
+use Rattle.text.specs.Decimal.{decimal}
+use Rattle.text.specs.Text.{space, lineFeed, field, phrase, elementLine}
+use Rattle.text.proofs.DecimalLaws.{decimal-short}
+
+-- A field is one byte longer than its number.
+pub field-length : (x end : ℕ) → length (field x end) ≡ length (decimal x) + 1
+unfolding field
+field-length x end = length-append (decimal x) (end ∷ [])
+
+-- Four lists in a row.
+four-length : (a b c d : List ℕ) → length (a ++ (b ++ (c ++ d))) ≡ length a + (length b + (length c + length d))
+four-length a b c d = simp length-append
+
+-- The lengths of the lines.
+pub phrase-length : (first second : List ℕ) (x y : ℕ) → length (phrase first x second y)
+    ≡ length first + (length (field x space) + (length second + length (field y lineFeed)))
+unfolding phrase
+phrase-length first second x y = four-length first (field x space) second (field y lineFeed)
+
+pub element-length : (element label level : ℕ) (verdict : Bool) → length (elementLine element label level verdict)
+    ≡ length (field element space) + (length (field label space) + (length (field level space) + length (field (bit verdict) lineFeed)))
+unfolding elementLine
+element-length element label level verdict = four-length (field element space) (field label space) (field level space) (field (bit verdict) lineFeed)
+
+-- A number below ten to the k, k not 0, is a field of k + 1 bytes at most.
+field-short : (k x end : ℕ) → x < 10 ^ suc k → length (field x end) ≤ suc k + 1
+field-short k x end h = omega (arith, field-length x end, decimal-short k x h)
+
+bit-small : (b : Bool) → bit b < 10
+bit-small true = omega arith
+bit-small false = omega arith
+
+-- The line of one of 4,096 elements has 19 bytes at most, whatever numbers of 16 bits its label and its level are.
+pub element-short : (element label level : ℕ) (verdict : Bool) → element < 4096 → label < 65536 → level < 65536
+    → length (elementLine element label level verdict) ≤ 19
+element-short element label level verdict e l v =
+    omega (
+      arith,
+      element-length element label level verdict,
+      field-short 3 element space (omega arith),
+      field-short 4 label space (omega arith),
+      field-short 4 level space (omega arith),
+      field-short 0 (bit verdict) lineFeed (bit-small verdict),
+    )
+
+-- Two words with numbers of 64 bits behind them have 42 bytes at most beside the words.
+pub phrase-short : (first second : List ℕ) (x y : ℕ) → x < 2 ^ 64 → y < 2 ^ 64 → length (phrase first x second y) ≤ length first + length second + 42
+phrase-short first second x y p q =
+    omega (arith, phrase-length first second x y, field-short 19 x space (omega arith), field-short 19 y lineFeed (omega arith))
