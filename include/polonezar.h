@@ -3,8 +3,10 @@
  * A rule and a report are byte strings. The readers, pz_read_rule and pz_read_report, say whether one
  * is accepted, and if not, why and where; they are in the library of the crate records, which ships
  * alone. pz_evaluate, in the library of the crate evaluate, marks the elements of a report at which
- * each entry of a rule holds. What each function answers and leaves in lent memory is proved of its
- * code for every input: nothing has to be checked before a call.
+ * each entry of a rule holds. pz_start, pz_open and pz_close, in the library of the crate onepass, give
+ * the verdict of a rule that looks back only at the moment an element opens. pz_tally, in the library
+ * of the crate tally, counts verdicts. What each function answers and leaves in lent memory is proved
+ * of its code for every input: nothing has to be checked before a call.
  *
  * Records. A number in a rule or a report has two bytes, the low byte first. A record is a length
  * (how many bytes follow the length), a kind, and a body of numbers; so a record takes 2 bytes more
@@ -52,7 +54,8 @@ enum pz_size {
 };
 
 /* The numbers given back. pz_read_rule gives 0 to 4; pz_read_report gives 0 and 5 to 8; pz_evaluate
- * gives 0 to 9. The numbers 10 to 12 are those of calls that are not here yet. */
+ * gives 0 to 9; pz_start gives 0 and 11; pz_open gives 0 to 4, 6 to 8, 10 and 11; pz_close gives 0 to 4,
+ * 7, 10 and 11; pz_tally gives 0 and 12. */
 enum pz_number {
     PZ_ACCEPTED = 0,          /* taken as it is */
     PZ_RULE_SIZE = 1,         /* the rule is empty, or longer than 512 bytes */
@@ -123,6 +126,69 @@ struct pz_evaluation {
 struct pz_evaluation pz_evaluate(const uint8_t *rule, size_t rule_len,
                                  const uint8_t *report, size_t report_len,
                                  uint64_t *marks, size_t words);
+
+/* The state of one pass: 1,040 bytes that the caller keeps, and may save and bring back. Numbers have
+ * the low byte first.
+ *
+ *   at    bytes       what
+ *   0     2           depth: how many elements are open, 0 to 64
+ *   2     2           elements: how many have been opened, 0 to 4,096, never below depth
+ *   4     2           root closed, 0 or 1; 1 only with depth 0
+ *   6     2           zero
+ *   8     8           presence: bit d is 1 where last word d is that of a sibling
+ *   16    64 times 8  open words: the marks of the open element of each level
+ *   528   64 times 8  last words: the marks of the last closed element of each level
+ *
+ * A state that breaks one of these rules, or has another length, is 11. */
+enum pz_state {
+    PZ_STATE_BYTES = 1040,
+    PZ_STATE_DEPTH = 0,
+    PZ_STATE_ELEMENTS = 2,
+    PZ_STATE_ROOT_CLOSED = 4,
+    PZ_STATE_PRESENCE = 8,
+    PZ_STATE_OPEN_WORDS = 16,
+    PZ_STATE_LAST_WORDS = 528
+};
+
+/* What the calls of one pass give. */
+struct pz_step {
+    uint32_t number;          /* 0 accepted, else why not */
+    uint32_t place;           /* for 2, 3 and 4 as pz_read_rule gives it; else 0 */
+    uint32_t verdict;         /* at an accepted opening 1 where the last entry holds at the element, else 0 */
+};
+
+/* Begins a pass. Lent for this call: state, written. Gives 0 and fills the state with zeros; a state of
+ * another length than 1,040 is 11 and stays as it was.
+ * Promise: Started (crates/onepass/specs/Step.antt). */
+struct pz_step pz_start(uint8_t *state, size_t state_len);
+
+/* Opens an element. Lent for this call: rule (read), state (read, written). Nothing is kept.
+ * Gives: number 0 and the verdict, which is the one that pz_evaluate's marks give this element in every
+ * report that begins with the tags accepted so far; else the number, place for 2, 3 and 4, verdict 0,
+ * and the state as it was.
+ * Order: what pz_read_rule gives for the rule, then 10, 11, 6 (the label is not one of 1 to 999), 7 (the
+ * root is closed), 8 (64 elements are open, or 4,096 have been opened).
+ * Promise: Opened (crates/onepass/specs/Step.antt). */
+struct pz_step pz_open(const uint8_t *rule, size_t rule_len, uint8_t *state, size_t state_len,
+                       uint32_t label);
+
+/* Closes the innermost open element. Lent as for pz_open. Gives number 0, verdict 0; else as pz_open.
+ * Order: what pz_read_rule gives for the rule, then 10, 11, 7 (no element is open).
+ * Promise: Closed (crates/onepass/specs/Step.antt). */
+struct pz_step pz_close(const uint8_t *rule, size_t rule_len, uint8_t *state, size_t state_len);
+
+/* Three counts that a caller keeps: begin with zeros. */
+struct pz_counts {
+    uint32_t seen;            /* how many verdicts have been counted */
+    uint32_t selected;        /* how many of them were true */
+    uint32_t passed_over;     /* how many of them were false */
+};
+
+/* Counts one verdict: 0 is a false one, anything else a true one. Lent for this call: tally, read and
+ * written; it is not NULL. Gives 0; or 12, with the tally as it was, where seen is 4,294,967,295 or is
+ * not the exact sum of the others.
+ * Promise: Tallied (crates/tally/specs/Tally.antt). */
+uint32_t pz_tally(struct pz_counts *tally, uint32_t verdict);
 
 #ifdef __cplusplus
 }

@@ -1,0 +1,161 @@
+/* One pass and the tally from C: case L, refused tags between accepted ones, bad states, NULL with length 0, and the
+ * verdicts of a whole report against the evaluator's marks. The last line is 'N passed, M failed'. */
+#include "polonezar.h"
+#include <stdio.h>
+#include <string.h>
+
+static int passed, failed;
+
+static void check(int ok, const char *what)
+{
+    if (ok) {
+        passed++;
+    } else {
+        failed++;
+        printf("FAILED: %s\n", what);
+    }
+}
+
+/* Rule B: label 10; 9(0); 7(1); label 20; 5(3,2). It looks back only. */
+static const uint8_t rule_b[] = {4, 0, 2, 0, 10, 0, 4, 0, 9, 0, 0, 0, 4, 0, 7, 0, 1, 0, 4, 0, 2, 0, 20, 0, 6, 0, 5, 0, 3, 0, 2, 0};
+
+/* A rule that looks ahead: label 20; 6(0). */
+static const uint8_t rule_ahead[] = {4, 0, 2, 0, 20, 0, 4, 0, 6, 0, 0, 0};
+
+/* Report R as labels, 0 for a closing. */
+static const uint32_t tags[] = {1, 10, 20, 0, 30, 0, 0, 10, 20, 0, 0, 0};
+
+static const uint8_t report_r[] = {
+    4, 0, 1, 0, 1, 0,
+    4, 0, 1, 0, 10, 0, 4, 0, 1, 0, 20, 0, 2, 0, 2, 0, 4, 0, 1, 0, 30, 0, 2, 0, 2, 0, 2, 0, 2, 0,
+    4, 0, 1, 0, 10, 0, 4, 0, 1, 0, 20, 0, 2, 0, 2, 0, 2, 0, 2, 0,
+    2, 0, 2, 0};
+
+static uint8_t state[PZ_STATE_BYTES + 1];
+
+static int step(struct pz_step r, uint32_t number, uint32_t place, uint32_t verdict)
+{
+    return r.number == number && r.place == place && r.verdict == verdict;
+}
+
+static struct pz_step opening(uint32_t label)
+{
+    return pz_open(rule_b, sizeof rule_b, state, PZ_STATE_BYTES, label);
+}
+
+static struct pz_step closing(void)
+{
+    return pz_close(rule_b, sizeof rule_b, state, PZ_STATE_BYTES);
+}
+
+/* A refused call, which has to leave the state as it was. */
+static void refused(const char *what, struct pz_step (*call)(void), uint32_t number)
+{
+    uint8_t before[sizeof state];
+    memcpy(before, state, sizeof state);
+    check(step(call(), number, 0, 0), what);
+    check(memcmp(before, state, sizeof state) == 0, what);
+}
+
+static struct pz_step label_0(void) { return opening(0); }
+static struct pz_step label_1000(void) { return opening(1000); }
+static struct pz_step label_65537(void) { return opening(65537); }
+static struct pz_step label_1(void) { return opening(1); }
+static struct pz_step ahead(void) { return pz_open(rule_ahead, sizeof rule_ahead, state, PZ_STATE_BYTES, 1); }
+static struct pz_step longer(void) { return pz_open(rule_b, sizeof rule_b, state, sizeof state, 1); }
+
+static void begin(void)
+{
+    memset(state, 0xAA, sizeof state);
+    check(step(pz_start(state, PZ_STATE_BYTES), 0, 0, 0), "start");
+    check(state[PZ_STATE_BYTES] == 0xAA, "start writes no byte past the state");
+}
+
+/* One byte of a started state changed: the state is bad. */
+static void bad(size_t at, uint8_t value, const char *what)
+{
+    begin();
+    state[at] = value;
+    refused(what, label_1, 11);
+}
+
+static void whole_report(void)
+{
+    uint64_t marks[6];
+    struct pz_counts tally = {0, 0, 0};
+    struct pz_evaluation e = pz_evaluate(rule_b, sizeof rule_b, report_r, sizeof report_r, marks, 6);
+    uint32_t element = 0;
+    check(e.number == 0 && e.elements == 6 && e.selected == 1, "rule B on report R");
+    begin();
+    refused("a closing first", closing, 7);
+    for (size_t i = 0; i < sizeof tags / sizeof tags[0]; i++) {
+        if (tags[i] == 0) {
+            check(step(closing(), 0, 0, 0), "a closing");
+        } else {
+            struct pz_step r = opening(tags[i]);
+            check(step(r, 0, 0, (uint32_t)(marks[element] >> 4 & 1)), "one pass gives the evaluator's verdict");
+            check(pz_tally(&tally, r.verdict) == 0, "the tally takes it");
+            element++;
+        }
+        if (i + 1 < sizeof tags / sizeof tags[0]) {
+            refused("label 0 on the way", label_0, 6);
+            refused("label 1,000 on the way", label_1000, 6);
+            refused("label 65,537 on the way", label_65537, 6);
+            refused("a rule that looks ahead", ahead, 10);
+            refused("a state one byte longer", longer, 11);
+        }
+    }
+    refused("an opening after the root closed", label_1, 7);
+    refused("a closing after the root closed", closing, 7);
+    check(tally.seen == e.elements && tally.selected == e.selected && tally.passed_over == 5, "the tally at the end");
+}
+
+static void limits(void)
+{
+    begin();
+    for (int i = 0; i < 64; i++)
+        check(step(opening(1), 0, 0, 0), "64 levels");
+    refused("the 65th level", label_1, 8);
+    begin();
+    check(step(opening(1), 0, 0, 0), "the root");
+    for (int i = 1; i < 4096; i++) {
+        check(step(opening(2), 0, 0, 0), "4,096 elements");
+        check(step(closing(), 0, 0, 0), "4,096 elements");
+    }
+    refused("the 4,097th element", label_1, 8);
+}
+
+static void tallies(void)
+{
+    struct pz_counts full = {4294967295u, 4294967295u, 0}, off = {3, 1, 1}, wraps = {0, 4294967295u, 1};
+    check(pz_tally(&full, 1) == 12 && full.seen == 4294967295u && full.passed_over == 0, "a full tally");
+    check(pz_tally(&off, 0) == 12 && off.seen == 3 && off.passed_over == 1, "a tally out of balance");
+    check(pz_tally(&wraps, 0) == 12 && wraps.seen == 0, "a sum that would wrap");
+}
+
+int main(void)
+{
+    struct pz_step r;
+    whole_report();
+    limits();
+    bad(PZ_STATE_DEPTH, 1, "depth above elements");
+    bad(PZ_STATE_ROOT_CLOSED, 2, "root closed 2");
+    bad(PZ_STATE_ROOT_CLOSED + 1, 1, "byte 5 set");
+    bad(6, 1, "byte 6 set");
+    bad(7, 1, "byte 7 set");
+    bad(PZ_STATE_ELEMENTS + 1, 17, "elements above 4,096");
+    tallies();
+    r = pz_start(NULL, 0);
+    check(step(r, 11, 0, 0), "start with nothing");
+    r = pz_open(rule_b, sizeof rule_b, NULL, 0, 1);
+    check(step(r, 11, 0, 0), "open with no state");
+    begin();
+    r = pz_open(NULL, 0, state, PZ_STATE_BYTES, 1);
+    check(step(r, 1, 0, 0), "open with no rule");
+    r = pz_close(NULL, 0, NULL, 0);
+    check(step(r, 1, 0, 0), "close with nothing");
+    r = pz_close(rule_b, sizeof rule_b, NULL, 0);
+    check(step(r, 11, 0, 0), "close with no state");
+    printf("%d passed, %d failed\n", passed, failed);
+    return failed != 0;
+}
