@@ -1,0 +1,179 @@
+//! Compares the exported functions with the document's words, call by call, on inputs made from a seed.
+//!
+//! compare [--seed N] [--inputs N] [--from N] [--program FILE]
+//!
+//! First the document's samples and edges, then `inputs` made inputs, beginning with the one numbered `from`. With
+//! `--program` the program is run on a share of inputs too. A difference is printed with the seed, the input's number
+//! and the input. Then comes the table of how often each number was given by each of its causes; a cause that was
+//! never met is a failure. The last line is 'N passed, M failed'; the exit status is 1 if anything failed.
+
+mod calls;
+mod edges;
+mod exported;
+mod inputs;
+// The readers by themselves write nothing to what they are lent.
+#[cfg_attr(not(all(feature = "evaluate", feature = "onepass", feature = "tally")), allow(dead_code))]
+mod lent;
+#[cfg(feature = "onepass")]
+mod one_pass;
+mod program;
+mod random;
+mod readers;
+mod run;
+#[cfg(feature = "tally")]
+mod tally;
+#[cfg(feature = "evaluate")]
+mod whole;
+
+use calls::Call;
+use random::Random;
+use run::Run;
+use std::process::ExitCode;
+
+/// How many inputs a short run makes.
+const INPUTS: u64 = 80_000;
+/// The program is run once for so many inputs.
+const PROGRAM_SHARE: u64 = 50;
+
+/// Makes one input and compares.
+type Family = fn(&mut Run, &mut Random);
+
+/// The inputs take these in turn: the more often a family is named, the larger its share.
+const FAMILIES: &[Family] = &[
+    readers::rule_input,
+    readers::report_input,
+    #[cfg(feature = "evaluate")]
+    whole::input,
+    #[cfg(feature = "evaluate")]
+    whole::input,
+    #[cfg(feature = "onepass")]
+    one_pass::walk_input,
+    #[cfg(feature = "onepass")]
+    one_pass::state_input,
+    #[cfg(feature = "onepass")]
+    one_pass::state_input,
+    #[cfg(feature = "tally")]
+    tally::input,
+];
+
+/// The calls that this build compares.
+fn calls(with_program: bool) -> Vec<Call> {
+    let mut calls = vec![Call::ReadRule, Call::ReadReport];
+    if cfg!(feature = "evaluate") {
+        calls.push(Call::Evaluate);
+    }
+    if cfg!(feature = "onepass") {
+        calls.extend([Call::Start, Call::Open, Call::Close]);
+    }
+    if cfg!(feature = "tally") {
+        calls.push(Call::Tally);
+    }
+    if with_program {
+        calls.push(Call::Program);
+    }
+    calls
+}
+
+/// The document's samples and edges.
+fn fixed_inputs(run: &mut Run, random: &mut Random) {
+    for rule in edges::rules().iter().chain(&edges::swept_rules()) {
+        readers::compare_rule(run, random, rule);
+    }
+    for report in edges::reports().iter().chain(&edges::swept_reports()) {
+        readers::compare_report(run, random, report);
+    }
+    #[cfg(feature = "evaluate")]
+    fixed_whole_reports(run, random);
+    #[cfg(feature = "onepass")]
+    fixed_walks(run, random);
+    #[cfg(feature = "onepass")]
+    one_pass::orders(run, random);
+}
+
+#[cfg(feature = "evaluate")]
+fn fixed_whole_reports(run: &mut Run, random: &mut Random) {
+    let sample = edges::sample_report();
+    for rule in edges::rules() {
+        whole::compare_with(run, random, &rule, &sample, 6);
+        whole::compare_with(run, random, &rule, &sample, 5);
+    }
+    for rule in edges::rules_by_number() {
+        for report in edges::reports() {
+            whole::compare_with(run, random, &rule, &report, 4_096);
+            whole::compare_with(run, random, &rule, &report, 0);
+        }
+    }
+}
+
+#[cfg(feature = "onepass")]
+fn fixed_walks(run: &mut Run, random: &mut Random) {
+    use outside::records::{looks_ahead, read_report, read_rule};
+    for rule in edges::rules() {
+        let Ok(entries) = read_rule(&rule) else { continue };
+        if entries.iter().any(|entry| looks_ahead(entry.kind)) {
+            continue;
+        }
+        for report in edges::reports() {
+            let Ok(tags) = read_report(&report) else { continue };
+            if tags.len() < 1_000 || entries.len() == 3 {
+                one_pass::walk(run, random, &rule, &tags, &[1, 10, 20]);
+            }
+        }
+    }
+}
+
+#[derive(Debug)]
+struct Options {
+    seed: u64,
+    inputs: u64,
+    from: u64,
+    program: Option<String>,
+}
+
+fn options() -> Result<Options, String> {
+    let mut options = Options { seed: 1, inputs: INPUTS, from: 0, program: None };
+    let mut words = std::env::args().skip(1);
+    while let Some(word) = words.next() {
+        let value = words.next().ok_or(format!("{word} needs a value"))?;
+        let number = || value.parse::<u64>().map_err(|error| format!("{word} {value}: {error}"));
+        match word.as_str() {
+            "--seed" => options.seed = number()?,
+            "--inputs" => options.inputs = number()?,
+            "--from" => options.from = number()?,
+            "--program" => options.program = Some(value),
+            _ => return Err(format!("unknown word {word}")),
+        }
+    }
+    Ok(options)
+}
+
+fn main() -> ExitCode {
+    let Options { seed, inputs, from, program } = match options() {
+        Ok(options) => options,
+        Err(message) => {
+            eprintln!("compare: {message}");
+            return ExitCode::from(2);
+        }
+    };
+    println!("seed {seed}, inputs {from} to {}", from + inputs);
+    let mut run = Run::new(seed);
+    fixed_inputs(&mut run, &mut Random::of(seed, u64::MAX));
+    for input in program.iter().flat_map(|_| program::edge_inputs()) {
+        program::compare(&mut run, program.as_deref().unwrap_or_default(), &input);
+    }
+    for input in from..from + inputs {
+        run.input = Some(input);
+        let mut random = Random::of(seed, input);
+        let turn = (input % FAMILIES.len() as u64) as usize;
+        FAMILIES[turn](&mut run, &mut random);
+        if let Some(program) = program.as_deref().filter(|_| input % PROGRAM_SHARE == 0) {
+            let input = program::any_input(&mut random);
+            program::compare(&mut run, program, &input);
+        }
+    }
+    if run.end(&calls(program.is_some())) {
+        ExitCode::SUCCESS
+    } else {
+        ExitCode::FAILURE
+    }
+}

@@ -1,0 +1,61 @@
+//! The whole report: the answer and every word of the buffer.
+
+use crate::calls::Call;
+use crate::exported;
+use crate::inputs;
+use crate::lent::Lent;
+use crate::random::Random;
+use crate::run::{hex, Run};
+use outside::records::{elements, read_report};
+use outside::whole::evaluate;
+
+pub fn input(run: &mut Run, random: &mut Random) {
+    let labels = inputs::labels(random);
+    let size = inputs::element_count(random);
+    let rule = match random.below(8) {
+        0 => inputs::any_rule(random, &labels, false),
+        _ if size > 1_000 && random.chance(7, 8) => {
+            let count = random.between(1, 8);
+            inputs::rule_bytes(&inputs::entries(random, count, &labels, false))
+        }
+        _ => inputs::valid_rule(random, &labels, false),
+    };
+    let report = if random.chance(1, 3) {
+        inputs::any_report(random, size, &labels)
+    } else {
+        inputs::report_bytes(&inputs::valid_tags(random, size, &labels))
+    };
+    compare(run, random, &rule, &report);
+}
+
+/// Compares with a buffer that is exact, longer or shorter, as it comes.
+pub fn compare(run: &mut Run, random: &mut Random, rule: &[u8], report: &[u8]) {
+    let size = read_report(report).map_or(3, |tags| elements(&tags));
+    let words = match random.below(8) {
+        0..=2 => size,
+        3..=5 => size + random.between(1, 9),
+        6 => size - 1,
+        _ => random.below(size),
+    };
+    compare_with(run, random, rule, report, words);
+}
+
+pub fn compare_with(run: &mut Run, random: &mut Random, rule: &[u8], report: &[u8], words: usize) {
+    let before: Vec<u64> = (0..words).map(|_| random.next()).collect();
+    let mut buffer = before.clone();
+    let (due, causes) = evaluate(rule, report, &mut buffer);
+
+    let [lent_rule, lent_report] = [rule, report].map(|bytes| Lent::bytes(random, bytes));
+    let mut marks = Lent::words(random, &before);
+    let reply = exported::evaluate(&lent_rule, &lent_report, &mut marks);
+    let input = || format!("{}\n{}\n  buffer of {words} words", hex("rule", rule), hex("report", report));
+    let kept = lent_rule.untouched() && lent_report.untouched() && marks.guards_kept();
+    run.same(Call::Evaluate, (due, true), (reply, kept), input);
+    run.same(Call::Evaluate, first_difference(&buffer, marks.content()), None, input);
+    run.met(Call::Evaluate, &causes);
+}
+
+/// Where two buffers differ first: the index and the two words.
+fn first_difference(due: &[u64], found: &[u64]) -> Option<(usize, u64, u64)> {
+    due.iter().zip(found).enumerate().find(|(_, (due, found))| due != found).map(|(s, (due, found))| (s, *due, *found))
+}
