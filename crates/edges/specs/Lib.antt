@@ -1,0 +1,4 @@
+pub mod Search
+pub mod Spell
+pub mod Asked
+pub mod Fresh
