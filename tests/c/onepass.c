@@ -62,6 +62,7 @@ static struct pz_step label_1000(void) { return opening(1000); }
 static struct pz_step label_65537(void) { return opening(65537); }
 static struct pz_step label_1(void) { return opening(1); }
 static struct pz_step ahead(void) { return pz_open(rule_ahead, sizeof rule_ahead, state, PZ_STATE_BYTES, 1); }
+static struct pz_step shorter(void) { return pz_open(rule_b, sizeof rule_b, state, PZ_STATE_BYTES - 1, 1); }
 static struct pz_step longer(void) { return pz_open(rule_b, sizeof rule_b, state, sizeof state, 1); }
 
 static void begin(void)
@@ -125,6 +126,50 @@ static void limits(void)
     refused("the 4,097th element", label_1, 8);
 }
 
+/* A state that no walk reaches and that is not bad: at depth 2, presence bits set above, no word where a walk would
+ * have put one. The table still decides, and which bytes change is fixed. */
+static void not_reached(void)
+{
+    uint8_t expected[PZ_STATE_BYTES];
+    begin();
+    memset(state + PZ_STATE_PRESENCE, 0xFF, PZ_STATE_BYTES - PZ_STATE_PRESENCE);
+    state[PZ_STATE_DEPTH] = 2;
+    state[PZ_STATE_ELEMENTS] = 9;
+    memcpy(expected, state, sizeof expected);
+    /* Both words are all ones: 9(0) and 7(1) hold, and label 20; so entries 1, 2, 3 and 4 hold and 0 does not. */
+    check(step(opening(20), 0, 0, 1), "the table decides on a state that no walk reaches");
+    expected[PZ_STATE_DEPTH] = 3;
+    expected[PZ_STATE_ELEMENTS] = 10;
+    expected[PZ_STATE_PRESENCE] = 0xF7;
+    memset(expected + PZ_STATE_OPEN_WORDS + 2 * 8, 0, 8);
+    expected[PZ_STATE_OPEN_WORDS + 2 * 8] = 30;
+    check(memcmp(expected, state, sizeof expected) == 0, "what the opening wrote, and nothing else");
+    check(step(closing(), 0, 0, 0), "a closing in it");
+    expected[PZ_STATE_DEPTH] = 2;
+    memcpy(expected + PZ_STATE_LAST_WORDS + 2 * 8, expected + PZ_STATE_OPEN_WORDS + 2 * 8, 8);
+    check(memcmp(expected, state, sizeof expected) == 0, "what the closing wrote, and nothing else");
+}
+
+/* Bad states that one changed byte does not make. */
+static void bad_pairs(void)
+{
+    begin();
+    state[PZ_STATE_DEPTH] = 65;
+    state[PZ_STATE_ELEMENTS] = 65;
+    refused("depth 65", label_1, 11);
+    refused("depth 65, closing", closing, 11);
+    begin();
+    check(step(opening(1), 0, 0, 0), "the root");
+    state[PZ_STATE_ROOT_CLOSED] = 1;
+    refused("root closed while it is open", label_1, 11);
+    refused("root closed while it is open, closing", closing, 11);
+    begin();
+    state[PZ_STATE_ELEMENTS + 1] = 16;
+    state[PZ_STATE_ELEMENTS] = 1;
+    refused("4,097 elements", label_1, 11);
+    refused("a state one byte shorter", shorter, 11);
+}
+
 static void tallies(void)
 {
     struct pz_counts full = {4294967295u, 4294967295u, 0}, off = {3, 1, 1}, wraps = {0, 4294967295u, 1};
@@ -144,6 +189,8 @@ int main(void)
     bad(6, 1, "byte 6 set");
     bad(7, 1, "byte 7 set");
     bad(PZ_STATE_ELEMENTS + 1, 17, "elements above 4,096");
+    bad_pairs();
+    not_reached();
     tallies();
     r = pz_start(NULL, 0);
     check(step(r, 11, 0, 0), "start with nothing");

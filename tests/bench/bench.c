@@ -1,0 +1,222 @@
+/* The proved calls beside their plain form, in one run: for each case the quickest of several rounds of each, and the
+ * ratio. Before a ratio is printed both have given the same answers and the same lent bytes. Times are printed and
+ * never judged; the last line counts the comparisons of answers. */
+#define _POSIX_C_SOURCE 199309L
+#include "plain.h"
+#include <stdio.h>
+#include <string.h>
+#include <time.h>
+
+enum { ROUNDS = 40, ELEMENTS = 4096, REPORT_BYTES = 10 * ELEMENTS };
+
+static int passed, failed;
+
+static double microseconds(void)
+{
+    struct timespec t;
+    clock_gettime(CLOCK_MONOTONIC, &t);
+    return (double)t.tv_sec * 1e6 + (double)t.tv_nsec / 1e3;
+}
+
+static unsigned next_random(unsigned *seed)
+{
+    *seed = *seed * 1103515245u + 12345u;
+    return *seed >> 16;
+}
+
+struct report {
+    const char *name;
+    uint8_t bytes[REPORT_BYTES];
+    size_t size;
+};
+
+static void put(struct report *r, unsigned number)
+{
+    r->bytes[r->size++] = (uint8_t)number;
+    r->bytes[r->size++] = (uint8_t)(number >> 8);
+}
+
+static void open_tag(struct report *r, unsigned label)
+{
+    put(r, 4);
+    put(r, 1);
+    put(r, label);
+}
+
+static void close_tag(struct report *r)
+{
+    put(r, 2);
+    put(r, 2);
+}
+
+/* A root and its leaves. */
+static void flat(struct report *r)
+{
+    r->name = "flat";
+    open_tag(r, 1);
+    for (unsigned i = 1; i < ELEMENTS; i++) {
+        open_tag(r, 1 + i % 40);
+        close_tag(r);
+    }
+    close_tag(r);
+}
+
+/* A root and 65 chains of 63 elements. */
+static void deep(struct report *r)
+{
+    r->name = "deep";
+    open_tag(r, 1);
+    for (unsigned i = 0; i < 65; i++) {
+        for (unsigned k = 0; k < 63; k++)
+            open_tag(r, 1 + k % 40);
+        for (unsigned k = 0; k < 63; k++)
+            close_tag(r);
+    }
+    close_tag(r);
+}
+
+/* Openings and closings by chance. */
+static void bushy(struct report *r)
+{
+    unsigned seed = 12345, depth = 1;
+    r->name = "bushy";
+    open_tag(r, 1);
+    for (unsigned count = 1; count < ELEMENTS;) {
+        if (depth < 64 && (depth == 1 || next_random(&seed) % 2)) {
+            open_tag(r, 1 + next_random(&seed) % 40);
+            depth++;
+            count++;
+        } else {
+            close_tag(r);
+            depth--;
+        }
+    }
+    while (depth--)
+        close_tag(r);
+}
+
+struct rule {
+    uint8_t bytes[512];
+    size_t size;
+};
+
+static void put_rule(struct rule *r, unsigned number)
+{
+    r->bytes[r->size++] = (uint8_t)number;
+    r->bytes[r->size++] = (uint8_t)(number >> 8);
+}
+
+static int has_two(unsigned kind)
+{
+    return kind == 4 || kind == 5 || (kind >= 10 && kind <= 13);
+}
+
+/* A label, true, and entries of the kinds given, with arguments by chance. */
+static struct rule rule_of(unsigned entries, const unsigned *kinds, unsigned many)
+{
+    struct rule r = {{0}, 0};
+    unsigned seed = 99;
+    for (unsigned i = 0; i < entries; i++) {
+        unsigned kind = i == 0 ? 2 : i == 1 ? 1 : kinds[next_random(&seed) % many];
+        put_rule(&r, kind == 1 ? 2 : has_two(kind) ? 6 : 4);
+        put_rule(&r, kind);
+        if (kind == 2)
+            put_rule(&r, 20);
+        else if (kind != 1)
+            put_rule(&r, next_random(&seed) % i);
+        if (has_two(kind))
+            put_rule(&r, next_random(&seed) % i);
+    }
+    return r;
+}
+
+static void check(int same, const char *call, unsigned entries, const char *report, double ours, double plain)
+{
+    if (same) {
+        passed++;
+        printf("%s: %2u entries, %-5s  proved %9.2f us, plain %9.2f us, ratio %.2f\n", call, entries, report, ours, plain,
+               ours / plain);
+    } else {
+        failed++;
+        printf("FAILED: %s: %u entries, %s: the answers differ\n", call, entries, report);
+    }
+}
+
+static void evaluation(unsigned entries, const struct rule *rule, const struct report *report)
+{
+    static uint64_t ours[ELEMENTS], plain[ELEMENTS];
+    struct pz_evaluation a = {0, 0, 0, 0}, b = a;
+    double best = 1e9, plain_best = 1e9;
+    for (int round = 0; round < ROUNDS; round++) {
+        double t = microseconds(), u, v;
+        a = pz_evaluate(rule->bytes, rule->size, report->bytes, report->size, ours, ELEMENTS);
+        u = microseconds();
+        b = plain_evaluate(rule->bytes, rule->size, report->bytes, report->size, plain, ELEMENTS);
+        v = microseconds();
+        if (u - t < best) best = u - t;
+        if (v - u < plain_best) plain_best = v - u;
+    }
+    check(memcmp(&a, &b, sizeof a) == 0 && a.number == 0 && memcmp(ours, plain, sizeof ours) == 0, "evaluate", entries,
+          report->name, best, plain_best);
+}
+
+struct calls {
+    struct pz_step (*open)(const uint8_t *, size_t, uint8_t *, size_t, uint32_t);
+    struct pz_step (*close)(const uint8_t *, size_t, uint8_t *, size_t);
+};
+
+/* Feeds a report's tags; how many verdicts were true, or a number above every count where a call was refused. */
+static uint32_t feed(struct calls calls, const struct rule *rule, const struct report *report, uint8_t *state)
+{
+    uint32_t selected = 0;
+    pz_start(state, PZ_STATE_BYTES);
+    for (size_t at = 0; at < report->size; at += report->bytes[at] + 2u) {
+        struct pz_step r;
+        if (report->bytes[at + 2] == 1)
+            r = calls.open(rule->bytes, rule->size, state, PZ_STATE_BYTES,
+                           report->bytes[at + 4] | (uint32_t)report->bytes[at + 5] << 8);
+        else
+            r = calls.close(rule->bytes, rule->size, state, PZ_STATE_BYTES);
+        if (r.number) return ELEMENTS + 1;
+        selected += r.verdict;
+    }
+    return selected;
+}
+
+static void one_pass(unsigned entries, const struct rule *rule, const struct report *report)
+{
+    static uint8_t ours[PZ_STATE_BYTES], plain[PZ_STATE_BYTES];
+    struct calls proved_calls = {pz_open, pz_close}, plain_calls = {plain_open, plain_close};
+    uint32_t a = 0, b = 0;
+    double best = 1e9, plain_best = 1e9;
+    for (int round = 0; round < ROUNDS; round++) {
+        double t = microseconds(), u, v;
+        a = feed(proved_calls, rule, report, ours);
+        u = microseconds();
+        b = feed(plain_calls, rule, report, plain);
+        v = microseconds();
+        if (u - t < best) best = u - t;
+        if (v - u < plain_best) plain_best = v - u;
+    }
+    check(a == b && a <= ELEMENTS && memcmp(ours, plain, sizeof ours) == 0, "one pass", entries, report->name, best,
+          plain_best);
+}
+
+int main(void)
+{
+    static struct report reports[3];
+    static const unsigned sizes[] = {1, 5, 16, 64}, all[] = {3, 4, 5, 6, 7, 8, 9, 10, 11, 12, 13, 14},
+                          back[] = {3, 4, 5, 7, 9, 11, 13};
+    flat(&reports[0]);
+    deep(&reports[1]);
+    bushy(&reports[2]);
+    for (int i = 0; i < 4; i++) {
+        struct rule any = rule_of(sizes[i], all, 12), looks_back = rule_of(sizes[i], back, 7);
+        for (int k = 0; k < 3; k++) {
+            evaluation(sizes[i], &any, &reports[k]);
+            one_pass(sizes[i], &looks_back, &reports[k]);
+        }
+    }
+    printf("%d passed, %d failed\n", passed, failed);
+    return failed != 0;
+}
