@@ -3,38 +3,37 @@
 -- Beside it: `goes-on` (there is such a report), `refused-kept` and `refused-left-out` (refused calls change nothing), and
 -- `report-fed` (feeding an accepted report's tags gives the last entry's bit of the meaning's word at each opening).
 -- Assumes nothing.
-use Prim.Native.Nat.{ℕ, suc, pred, _≤_, _<_, suc-le-suc}
+use Prim.Native.Nat.{ℕ, suc, pred, _≤_, suc-le-suc}
 use native.Mathlib.Omega.{arith}
 use borrow.Author.Tests.{eq-eqb, eqb-true, eqb-false, ne-eqb}
 use mathlib.Core.Path.{_≡_, refl, sym, ap, subst, _∙_}
-use mathlib.Core.Bool.{Bool, true, false, cond, not, _&&_, _||_}
+use mathlib.Core.Bool.{Bool, true, false, cond}
 use mathlib.Core.List.{List, [], _∷_, _++_, append-assoc, append-nil}
 use lib.Dec.{eqb}
-use lib.ListN.{length, getD, replicate}
+use lib.ListN.{length, replicate}
 use Rattle.records.specs.declared.answer.Answer.{Answer}
 use Rattle.records.specs.declared.answer.Answer.the-variants.{Accepted, Refused}
 use Rattle.records.specs.declared.rule.Entry.{Entry}
 use Rattle.records.specs.Answer.{countOf}
-use Rattle.records.specs.Kinds.{looksBack}
 use Rattle.records.specs.Report.{reportAnswer, tagsOf as tagsIn}
 use Rattle.records.specs.Rule.{ruleAnswer}
 use Rattle.records.specs.Tables.{entriesOf, levelsOf, labelsOf}
-use Rattle.records.specs.Tags.{Tag, opens, closes, opened, levels, labels}
+use Rattle.records.specs.Tags.{Tag, opens, closes, opened}
 use Rattle.grammar.specs.Bytes.{Bytes}
-use Rattle.grammar.specs.Legal.{Fit}
-use Rattle.grammar.specs.Rules.{noEntry, RuleEntries}
+use Rattle.grammar.specs.Rules.{RuleEntries}
 use Rattle.grammar.proofs.Elements.{accepted-legal, levels-accepted, labels-accepted}
 use Rattle.grammar.specs.Reports.{bytesOf}
 use Rattle.grammar.proofs.ReportBytes.{accepted-tree, tags-are}
 use Rattle.grammar.proofs.Trees.{bytes-append}
 use Rattle.grammar.proofs.Entries.{entries-count, entries-few, entries-some, entry-formed}
 use Rattle.meaning.specs.Marks.{bit, bitAt, wordOf, verdict}
-use Rattle.meaning.specs.OnePass.{State, fresh, LooksBack, fault, openedVerdict, after, afterAll, Taken}
+use Rattle.meaning.specs.OnePass.{fresh, LooksBack, fault, openedVerdict, afterAll, Taken}
 use Rattle.meaning.proofs.Agrees.{verdict-agrees as table-agrees}
 use Rattle.meaning.proofs.Taken.{taken-append, taken-fit, after-append}
 use Rattle.onepass.specs.Calls.{Call, Promised, Calls, done, then, tagsOf, taken, takenTags, Begins}
 use Rattle.onepass.specs.State.{stateSize, stateOf, Good}
-use Rattle.onepass.specs.Step.{reply, startAnswer, startAfter, written, looksAhead, callNumber, entriesAnswer, entriesAfter, answerOf, stateAfter, Started, Opened}
+use Rattle.onepass.specs.Step.{reply, startAnswer, startAfter, written, looksAhead, callNumber, entriesAnswer, entriesAfter, answerOf}
+use Rattle.onepass.specs.Step.{stateAfter, Started, Opened}
 use Rattle.onepass.specs.declared.export.StepReply.{StepReply}
 use Rattle.onepass.proofs.StateLaws.{zeros-fresh, zeros-good, zeros-bytes}
 use Rattle.onepass.proofs.CallLaws.{call-taken, call-number, written-state, written-good, written-bytes}

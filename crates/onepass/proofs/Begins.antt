@@ -1,20 +1,19 @@
 -- Accepted reports whose bytes begin with those of some tags: their tags do too, and there is one for all tags that fit.
 -- Assumes nothing.
-use Prim.Native.Nat.{ℕ, zero, suc, _+_, _-_, _/_, _%_, _≤_, _<_}
-use native.Mathlib.Nat.{add-zero, add-suc, mod-lt, div-lt-iff-lt-mul}
+use Prim.Native.Nat.{ℕ, zero, suc, _+_, _-_, _≤_, _<_}
+use native.Mathlib.Nat.{add-zero, add-suc, mod-lt}
 use native.Mathlib.Decide.{decLt}
 use native.Mathlib.Omega.{arith}
-use mathlib.Core.Path.{_≡_, refl, sym, ap, subst, _∙_}
+use mathlib.Core.Path.{_≡_, refl, sym, ap, _∙_}
 use mathlib.Core.List.{List, [], _∷_, _++_, append-assoc, append-nil}
-use lib.ListN.{length, getD, replicate, length-append}
+use lib.ListN.{length, replicate, length-append}
 use Rattle.records.specs.Frame.{startOf}
-use Rattle.records.specs.Report.{tagAt, tagsBefore, reportAnswer, tagsOf}
+use Rattle.records.specs.Report.{tagAt, tagsBefore, tagsOf}
 use Rattle.records.specs.Tags.{Tag, opens, closes, depthFrom, depth, labels, opened}
-use Rattle.records.specs.declared.answer.Answer.the-variants.{Accepted}
 use Rattle.records.proofs.TagLaws.{depth-append}
 use Rattle.grammar.specs.Bytes.{Bytes, twoBytes}
 use Rattle.grammar.specs.Legal.{Fit, Legal}
-use Rattle.grammar.specs.Reports.{Tree, tagsT, sizeT, Within, tagBytes, bytesOf}
+use Rattle.grammar.specs.Reports.{tagsT, sizeT, tagBytes, bytesOf}
 use Rattle.grammar.proofs.Fits.{fit-append}
 use Rattle.grammar.proofs.Frame.{start-strict}
 use Rattle.grammar.proofs.ReportBytes.{tags-back, tags-are, accepted-tree, tree-accepted}
@@ -77,6 +76,7 @@ closes-bytes : Bytes (tagBytes closes)
 unfolding tagBytes
 closes-bytes = append-bytes (twoBytes 2) _ (two-bytes 2 (omega arith)) (two-bytes 2 (omega arith))
 
+-- The bytes of tags that get no number are bytes.
 pub fit-bytes : (ts : List Tag) (d e : ℕ) → Fit d e ts → Bytes (bytesOf ts)
 unfolding bytesOf Fit
 fit-bytes [] d e f = λ i. omega arith

@@ -9,7 +9,7 @@ use borrow.Author.Tests.{eq-eqb, ne-eqb}
 use lib.Bits.{bitOr, or-shifted-r}
 use lib.Dec.{eqb}
 use lib.Pow.{pow-pos, pow-add, high, low, split, shl-exact, shr-shr, field, mod-mod-pow}
-use Rattle.meaning.specs.Marks.{bit, bitAt, word}
+use Rattle.meaning.specs.Marks.{bit, bitAt}
 use Rattle.meaning.proofs.Words.{word-lt, word-bit, word-only}
 use Rattle.onepass.specs.Bytes.{withBit}
 
@@ -108,6 +108,7 @@ module _ (i w : ℕ) (on : Bool) (li : i < 64) (small : w < 2 ^ 64) where
   pub out-le : (w / 2 ^ i % 2 * 2 ^ i) % 2 ^ 64 ≤ w
   out-le = rw (shl-exact 1 i 64 b-small (omega arith)) (omega (arith, word-around, add-mul (h * 2) b (2 ^ i)))
 
+  -- The bit taken out and put in anew is the bit put to a value.
   pub with-bit-machine : w - (w / 2 ^ i % 2 * 2 ^ i) % 2 ^ 64 + (bit on * 2 ^ i) % 2 ^ 64 ≡ withBit i on w
   unfolding withBit
   with-bit-machine =

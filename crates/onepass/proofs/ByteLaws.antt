@@ -1,9 +1,10 @@
 -- Numbers of any width in a byte string: their parts, their bound, and what storing one changes and keeps.
 -- Assumes nothing.
 use Prim.Native.Nat.{ℕ, zero, suc, pred, _+_, _*_, _/_, _%_, _^_, _-_, _≤_, _<_}
-use native.Mathlib.Nat.{add-zero, zero-add, one-mul, mul-assoc, mul-comm, mul-add, add-assoc, pow-suc, pow-succ', div-one, div-div-eq-div-mul, div-lt-iff-lt-mul, mod-lt, div-add-mod'}
+use native.Mathlib.Nat.{add-zero, zero-add, one-mul, mul-assoc, pow-suc, pow-succ', div-one, div-div-eq-div-mul, div-lt-iff-lt-mul, mod-lt}
+use native.Mathlib.Nat.{div-add-mod'}
 use native.Mathlib.Omega.{arith}
-use mathlib.Core.Path.{_≡_, refl, sym, ap, ap₂, _∙_}
+use mathlib.Core.Path.{_≡_, refl, sym, _∙_}
 use mathlib.Core.List.{List, [], _∷_}
 use lib.ListN.{length, getD, set, length-set}
 use lib.Seq.{getD-set-same, getD-set-other}
@@ -71,7 +72,6 @@ pub word-other : (j p k at v : ℕ) (s : List ℕ) → ((i : ℕ) → p ≤ i �
     → wordAt j (putAt k at v s) p ≡ wordAt j s p
 word-other j p k at v s n = word-same j p _ s (λ i l m. put-other k at v s i (n i l m))
 
--- A byte string stays one.
 set-bytes : (s : List ℕ) (at x : ℕ) → Bytes s → x < 256 → Bytes (set s at x)
 set-bytes [] at x b h i = b i
 set-bytes (y ∷ s) zero x b h zero = h
@@ -79,6 +79,7 @@ set-bytes (y ∷ s) zero x b h (suc i) = b (suc i)
 set-bytes (y ∷ s) (suc at) x b h zero = b zero
 set-bytes (y ∷ s) (suc at) x b h (suc i) = set-bytes s at x (λ j. b (suc j)) h i
 
+-- A byte string stays one.
 pub put-bytes : (k at v : ℕ) (s : List ℕ) → Bytes s → Bytes (putAt k at v s)
 unfolding putAt
 put-bytes zero at v s b = b

@@ -3,25 +3,28 @@
 use Prim.Native.Nat.{ℕ, pred, _+_, _^_, _≤_, _<_}
 use native.Mathlib.Nat.{lt-of-lt-of-le}
 use native.Mathlib.Omega.{arith}
-use borrow.Author.Tests.{eq-eqb, ne-eqb, eqb-true, eqb-false}
+use borrow.Author.Tests.{ne-eqb, eqb-true, eqb-false}
 use mathlib.Core.Path.{_≡_, refl, sym, ap, _∙_}
 use mathlib.Core.Bool.{Bool, true, false, cond, _||_}
 use mathlib.Core.List.{List}
 use lib.Dec.{leb, ltb, eqb}
-use lib.ListN.{length, getD}
+use lib.ListN.{length}
 use lib.Pow.{pow-mono}
 use Rattle.records.specs.declared.rule.Entry.{Entry}
 use Rattle.records.specs.Tags.{Tag, opens, closes, outside, tagFault}
 use Rattle.records.proofs.ReportLaws.{open-sound, close-sound}
 use Rattle.grammar.specs.Bytes.{Bytes}
 use Rattle.meaning.specs.Marks.{bit, bitAt}
-use Rattle.meaning.specs.OnePass.{State, fault, stepWord, parentWord, siblingWord, openedWord, openedVerdict, opened, closed, after}
-use Rattle.onepass.specs.Bytes.{wordAt, putAt}
-use Rattle.onepass.specs.State.{stateSize, depthIn, elementsIn, rootIn, presenceIn, openPlace, lastPlace, stateOf, bad, Good}
-use Rattle.onepass.specs.Step.{reply, cleared, openedBytes, marked, rooted, closedBytes, written, looksAhead, callNumber, entriesAnswer, entriesAfter, Taken}
+use Rattle.meaning.specs.OnePass.{State, fault, stepWord, openedWord, openedVerdict, opened, closed, after}
+use Rattle.onepass.specs.Bytes.{wordAt}
+use Rattle.onepass.specs.State.{depthIn, elementsIn, rootIn, presenceIn, openPlace, lastPlace, stateOf, bad, Good}
+use Rattle.onepass.specs.Step.{reply, cleared, openedBytes, marked, rooted, closedBytes, written, looksAhead, callNumber}
+use Rattle.onepass.specs.Step.{entriesAnswer, entriesAfter, Answered}
 use Rattle.onepass.proofs.ByteLaws.{word-small, put-length, put-bytes}
 use Rattle.onepass.proofs.StepLaws.{step-small}
-use Rattle.onepass.proofs.StateLaws.{good-iff, listed-at, parent-read, sibling-read, opened-depth, opened-elements, opened-root, opened-spare, opened-open, opened-last, opened-presence, closed-depth, closed-elements, closed-root, closed-spare, closed-last, closed-open, closed-presence}
+use Rattle.onepass.proofs.StateLaws.{state-same, good-iff, listed-at, parent-read, sibling-read, opened-depth, opened-elements}
+use Rattle.onepass.proofs.StateLaws.{opened-root, opened-spare, opened-open, opened-last, opened-presence, closed-depth}
+use Rattle.onepass.proofs.StateLaws.{closed-elements, closed-root, closed-spare, closed-last, closed-open, closed-presence}
 
 -- ---- when a call is taken
 
@@ -44,18 +47,18 @@ module _ (es : List Entry) (s : List ℕ) where
   -- ---- what it is answered
 
   -- Refused: the number, no place, no verdict, and the bytes as they were.
-  pub refused-is : (t : Tag) (k : ℕ) → k ≡ callNumber es s t → (k ≡ 0 → ⊥) → Taken es s t (reply k 0 0) s
+  pub refused-is : (t : Tag) (k : ℕ) → k ≡ callNumber es s t → (k ≡ 0 → ⊥) → Answered es s t (reply k 0 0) s
   unfolding entriesAnswer entriesAfter
   refused-is t k e n = record { answer = rw (← e, ne-eqb k 0 n); state-is = rw (← e, ne-eqb k 0 n) }
 
   -- An opening that is taken: the last entry's bit of the word, and what opening writes.
   pub opened-is : (l w : ℕ) → callNumber es s (opens l) ≡ 0 → w ≡ openedWord es (stateOf s) l
-      → Taken es s (opens l) (reply 0 0 (bit (bitAt w (pred (length es))))) (openedBytes (depthIn s) (elementsIn s) w s)
+      → Answered es s (opens l) (reply 0 0 (bit (bitAt w (pred (length es))))) (openedBytes (depthIn s) (elementsIn s) w s)
   unfolding entriesAnswer entriesAfter written openedVerdict
   opened-is l w z e = record { answer = rw (z, e); state-is = rw (z, e) }
 
   -- A closing that is taken: no verdict, and what closing writes.
-  pub closed-is : callNumber es s closes ≡ 0 → Taken es s closes (reply 0 0 0) (closedBytes (pred (depthIn s)) s)
+  pub closed-is : callNumber es s closes ≡ 0 → Answered es s closes (reply 0 0 0) (closedBytes (pred (depthIn s)) s)
   unfolding entriesAnswer entriesAfter written
   closed-is z = record { answer = rw z; state-is = rw z }
 
@@ -92,11 +95,6 @@ module _ (s : List ℕ) where
 
 -- ---- the state after it
 
-state-same : {d d′ e e′ : ℕ} {r r′ : Bool} {p p′ : List Bool} {o o′ l l′ : List ℕ} → d ≡ d′ → e ≡ e′ → r ≡ r′ → p ≡ p′ → o ≡ o′ → l ≡ l′
-    → _≡_ {A = State} (record { depth = d; elements = e; rootClosed = r; presence = p; openWords = o; lastWords = l })
-    (record { depth = d′; elements = e′; rootClosed = r′; presence = p′; openWords = o′; lastWords = l′ })
-state-same a b c d e f = rw (a, b, c, d, e, f)
-
 word-room : (es : List Entry) (st : State) (l : ℕ) → length es ≤ 64 → openedWord es st l < 2 ^ 64
 unfolding openedWord
 word-room es st l h = lt-of-lt-of-le (step-small es l _ _ (length es)) (pow-mono h)
@@ -120,7 +118,7 @@ closed-length : (d : ℕ) (s : List ℕ) → length (closedBytes d s) ≡ length
 unfolding closedBytes rooted marked
 closed-length d s =
     let a = put-length 2 0 d _ ∙ put-length 8 8 _ _ ∙ put-length 8 (lastPlace d) (wordAt 8 s (openPlace d)) s in
-    either-length (eqb d 0) _ _ (length s) (put-length 2 4 1 _ ∙ a) a
+    either-length (eqb d 0) _ _ (length s) (put-length 2 4 _ _ ∙ a) a
 
 opened-bytes : (d e w : ℕ) (s : List ℕ) → Bytes s → Bytes (openedBytes d e w s)
 unfolding openedBytes cleared
@@ -132,7 +130,7 @@ closed-bytes : (d : ℕ) (s : List ℕ) → Bytes s → Bytes (closedBytes d s)
 unfolding closedBytes rooted marked
 closed-bytes d s b =
     let a = put-bytes 2 0 d _ (put-bytes 8 8 _ _ (put-bytes 8 (lastPlace d) (wordAt 8 s (openPlace d)) s b)) in
-    either-bytes (eqb d 0) _ _ (put-bytes 2 4 1 _ a) a
+    either-bytes (eqb d 0) _ _ (put-bytes 2 4 _ _ a) a
 
 root-small : (b : Bool) (r : ℕ) → r ≤ 1 → cond b 1 r ≤ 1
 root-small true r l = omega arith

@@ -1,8 +1,8 @@
 -- What the code's branches come to, over plain numbers: each return of start, open and close cites one law. Assumes nothing.
-use Prim.Native.Nat.{ℕ, zero, suc, pred, _-_, _≤_, _<_}
+use Prim.Native.Nat.{ℕ, pred, _-_, _≤_, _<_}
 use native.Mathlib.Omega.{arith}
 use borrow.Author.Tests.{eq-eqb, ne-eqb}
-use mathlib.Core.Path.{_≡_, refl, sym, ap, subst, _∙_}
+use mathlib.Core.Path.{_≡_, sym, ap, _∙_}
 use mathlib.Core.Bool.{Bool, true, false, cond}
 use mathlib.Core.List.{List}
 use lib.Dec.{eqb}
@@ -20,7 +20,8 @@ use Rattle.meaning.specs.Marks.{bit, bitAt}
 use Rattle.meaning.specs.OnePass.{fault, stepWord}
 use Rattle.onepass.specs.Bytes.{wordAt}
 use Rattle.onepass.specs.State.{stateSize, depthIn, elementsIn, presenceIn, openPlace, lastPlace, stateOf, bad}
-use Rattle.onepass.specs.Step.{reply, startAnswer, startAfter, openedBytes, closedBytes, looksAhead, callNumber, answerOf, stateAfter, Started, Taken}
+use Rattle.onepass.specs.Step.{reply, startAnswer, startAfter, openedBytes, closedBytes, looksAhead, callNumber, answerOf, stateAfter}
+use Rattle.onepass.specs.Step.{Started, Answered}
 use Rattle.onepass.specs.Table.{tableOf}
 use Rattle.onepass.specs.declared.export.StepReply.{StepReply}
 use Rattle.onepass.proofs.ByteLaws.{pred-sub}
@@ -30,10 +31,12 @@ use Rattle.onepass.proofs.CallLaws.{call-taken, opened-is, closed-is, o
 
 -- ---- start
 
+-- Start with another length.
 pub start-refused : (s : List ℕ) → (length s ≡ stateSize → ⊥) → Started s (reply 11 0 0) s
 unfolding startAnswer startAfter
 start-refused s n = record { answer = rw (ne-eqb (length s) stateSize n); state-is = rw (ne-eqb (length s) stateSize n) }
 
+-- Start with 1,040 bytes.
 pub start-done : (s after : List ℕ) → length s ≡ stateSize → after ≡ replicate (length s) 0 → Started s (reply 0 0 0) after
 unfolding startAnswer startAfter
 start-done s after e f =
@@ -46,14 +49,17 @@ pub tested-long : (s : List ℕ) (b : Bool) → b ≡ bad s → b ≡ false → 
 tested-long s b e f = good-iff s .0 (sym e ∙ f) .long
 
 module _ (es : List Entry) (s : List ℕ) (t : Tag) (a b : Bool) (ahead : a ≡ looksAhead es) where
+  -- An entry looks ahead: 10.
   pub number-ahead : a ≡ true → 10 ≡ callNumber es s t
   unfolding callNumber
   number-ahead e = rw (← ahead, e)
 
+  -- None does, and the state is bad: 11.
   pub number-bad : a ≡ false → b ≡ bad s → b ≡ true → 11 ≡ callNumber es s t
   unfolding callNumber
   number-bad e f g = rw (← ahead, e, ← f, g)
 
+  -- Neither: the number of the tag.
   pub number-fault : (k : ℕ) → a ≡ false → b ≡ bad s → b ≡ false → k ≡ fault (stateOf s) t → k ≡ callNumber es s t
   unfolding callNumber
   number-fault k e f g h = rw (← ahead, e, ← f, g) h
@@ -72,10 +78,11 @@ module _ (es : List Entry) (s : List ℕ) (k : ℕ) where
   pub closes-fine : k ≡ callNumber es s closes → k ≡ 0 → (length s ≡ stateSize) × (0 < depthIn s) × (depthIn s ≤ 64)
   closes-fine e z = let r = call-taken es s closes (sym e ∙ z) .1 in (r .0 .long, closes-room s (r .1), r .0 .shallow)
 
+  -- An opening that is taken, from what was read, worked out and stored.
   pub opened-done : (l n d e p q w : ℕ) (on : Bool) (after : List ℕ) → length es ≡ n → k ≡ callNumber es s (opens l) → k ≡ 0
       → d ≡ depthIn s → e ≡ elementsIn s → p ≡ cond (eqb d 0) 0 (wordAt 8 s (openPlace (pred d)))
       → q ≡ cond (bitAt (presenceIn s) d) (wordAt 8 s (lastPlace d)) 0 → w ≡ stepWord es l p q n → on ≡ bitAt w (n - 1)
-      → after ≡ openedBytes d e w s → Taken es s (opens l) (reply 0 0 (bit on)) after
+      → after ≡ openedBytes d e w s → Answered es s (opens l) (reply 0 0 (bit on)) after
   opened-done l n d e p q w on after m c z dd ee pp qq ww oo aa =
       let r = opens-fine l c z in
       let word = ww ∙ ap (stepWord es l p q) (sym m) ∙ opened-read es s l p q (r .1) (rw dd at pp) (rw dd at qq) in
@@ -85,8 +92,9 @@ module _ (es : List Entry) (s : List ℕ) (k : ℕ) where
         state-is = aa ∙ rw (dd, ee) (done .state-is);
       }
 
+  -- A closing that is taken.
   pub closed-done : (d : ℕ) (after : List ℕ) → k ≡ callNumber es s closes → k ≡ 0 → d ≡ depthIn s → after ≡ closedBytes (d - 1) s
-      → Taken es s closes (reply 0 0 0) after
+      → Answered es s closes (reply 0 0 0) after
   closed-done d after c z dd aa =
       let done = closed-is es s (sym c ∙ z) in
       record { answer = done .answer; state-is = aa ∙ rw (pred-sub d, dd) (done .state-is) }
@@ -103,17 +111,18 @@ filled-entries rule a b c r kinds firsts seconds n f e la lb lc =
     rw (f .kinds-are, f .firsts-are, f .seconds-are, ← count)
     (table-filled (entriesOf rule) a b c (omega arith) (omega arith) (omega arith))
 
--- An accepted rule has 1 to 64 entries; the place of a refused one is small.
+-- An accepted rule has 1 to 64 entries.
 pub accepted-range : (rule : List ℕ) (r : Answer) (n : ℕ) → r ≡ ruleAnswer rule → r ≡ Accepted n → (1 ≤ n) × (n ≤ 64)
 accepted-range rule r n e f =
     let a = sym e ∙ f in (entries-some rule n a, omega (arith, rule-small rule .count-in, ap countOf a))
 
+-- The place of a refused rule fits 32 bits.
 pub refused-place : (rule : List ℕ) (r : Answer) (k p : ℕ) → r ≡ ruleAnswer rule → r ≡ Refused k p → p ≤ 512
 refused-place rule r k p e f = omega (arith, rule-small rule .place-in, ap placeOf (sym e ∙ f))
 
 module _ (rule s : List ℕ) (t : Tag) where
   -- With an accepted rule a call is answered as its entries say.
-  pub accepted-call : (n : ℕ) (r : StepReply) (after : List ℕ) → ruleAnswer rule ≡ Accepted n → Taken (entriesOf rule) s t r after
+  pub accepted-call : (n : ℕ) (r : StepReply) (after : List ℕ) → ruleAnswer rule ≡ Accepted n → Answered (entriesOf rule) s t r after
       → (r ≡ answerOf rule s t) × (after ≡ stateAfter rule s t)
   unfolding answerOf stateAfter
   accepted-call n r after e c = (rw e (c .answer), rw e (c .state-is))

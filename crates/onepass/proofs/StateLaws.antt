@@ -1,14 +1,14 @@
 -- The state's bytes as the state of the step table: the test for bad states, what is read of the words, and that what start, opening
 -- and closing write are the fresh, the opened and the closed state. Assumes nothing.
-use Prim.Native.Nat.{ℕ, zero, suc, pred, _+_, _*_, _^_, _≤_, _<_}
+use Prim.Native.Nat.{ℕ, zero, suc, pred, _+_, _^_, _≤_, _<_}
 use native.Mathlib.Nat.{not-suc-le-zero, le-of-suc-le-suc, zero-div}
 use native.Mathlib.Numerals.{add-one}
 use native.Mathlib.Decide.{ℕ-discrete}
 use native.Mathlib.Omega.{arith}
-use borrow.Author.Tests.{lt-ltb, le-ltb, eq-eqb, ne-eqb, ltb-true, eqb-true}
+use borrow.Author.Tests.{eq-eqb, ne-eqb, ltb-true}
 use mathlib.Core.Path.{_≡_, refl, sym, ap, _∙_}
 use mathlib.Core.Bool.{Bool, true, false, cond}
-use mathlib.Core.List.{List, [], _∷_}
+use mathlib.Core.List.{List}
 use mathlib.Core.Logic.{_↔_, _⊎_, inl, inr}
 use lib.Dec.{eqb, ltb}
 use lib.ListN.{length, getD, set, replicate, length-set, length-replicate}
@@ -23,6 +23,12 @@ use Rattle.onepass.specs.State.{stateSize, depthIn, elementsIn, rootIn, 
 use Rattle.onepass.specs.Step.{cleared, openedBytes, marked, rooted, closedBytes}
 use Rattle.onepass.proofs.ByteLaws.{put-length, word-other, word-put}
 use Rattle.onepass.proofs.BitLaws.{with-bit-small, with-bit-at}
+
+-- Two states with the same parts are one.
+pub state-same : {d d′ e e′ : ℕ} {r r′ : Bool} {p p′ : List Bool} {o o′ l l′ : List ℕ} → d ≡ d′ → e ≡ e′ → r ≡ r′ → p ≡ p′ → o ≡ o′ → l ≡ l′
+    → _≡_ {A = State} (record { depth = d; elements = e; rootClosed = r; presence = p; openWords = o; lastWords = l })
+    (record { depth = d′; elements = e′; rootClosed = r′; presence = p′; openWords = o′; lastWords = l′ })
+state-same a b c d e f = rw (a, b, c, d, e, f)
 
 -- ---- the test
 
@@ -39,7 +45,7 @@ bad-told s =
     (ltb-told 1 (rootIn s))) (and-told (eqb-told (rootIn s) 1) (not-told (eqb-told (depthIn s) 0))))
     (not-told (and-told (eqb-told (getD s 6 0) 0) (eqb-told (getD s 7 0) 0))))
 
--- The test lets a state through exactly where nothing is wrong with it.
+-- The test lets a state through exactly where no clause of "Bad" applies.
 pub good-iff : (s : List ℕ) → (bad s ≡ false) ↔ Good s
 good-iff s = (λ e. good (false-iff (bad-told s) .0 e), λ g. false-iff (bad-told s) .1 (fair g)) where
   good : (Bad s → ⊥) → Good s
@@ -70,11 +76,13 @@ good-iff s = (λ e. good (false-iff (bad-told s) .0 e), λ g. false-iff (bad-tol
 -- ---- lists of values
 
 module _ {A : Type 0} where
+  -- There is a place for each number below n.
   pub listed-length : (n : ℕ) (f : ℕ → A) → length (listed n f) ≡ n
   unfolding listed
   listed-length zero f = refl
   listed-length (suc n) f = ap suc (listed-length n (λ i. f (suc i)))
 
+  -- Place i holds the value at i.
   pub listed-at : (n : ℕ) (f : ℕ → A) (i : ℕ) (d : A) → i < n → getD (listed n f) i d ≡ f i
   unfolding listed
   listed-at zero f i d l = absurd (not-suc-le-zero l)
@@ -150,21 +158,17 @@ zeros-word (suc k) n at = omega (arith, zeros-at n at, zeros-word k n (at + 1))
 pub zeros-fresh : (n : ℕ) → stateOf (replicate n 0) ≡ fresh
 unfolding stateOf
 zeros-fresh n =
-    rw (
-      zeros-word 2 n 0,
-      zeros-word 2 n 2,
-      zeros-word 2 n 4,
-      listed-all 64 (bitAt (presenceIn (replicate n 0))) false (λ i. rw (zeros-word 8 n 8, zero-div)),
-      listed-all 64 (λ i. wordAt 8 (replicate n 0) (openPlace i)) 0 (λ i. zeros-word 8 n (openPlace i)),
-      listed-all 64 (λ i. wordAt 8 (replicate n 0) (lastPlace i)) 0 (λ i. zeros-word 8 n (lastPlace i)),
-    )
+    state-same (zeros-word _ n _) (zeros-word _ n _) (ap (λ (x : ℕ). eqb x 1) (zeros-word _ n _))
+    (listed-all 64 (bitAt (presenceIn (replicate n 0))) false (λ i. rw (zeros-word 8 n 8, zero-div)))
+    (listed-all 64 (λ i. wordAt 8 (replicate n 0) (openPlace i)) 0 (λ i. zeros-word _ n _))
+    (listed-all 64 (λ i. wordAt 8 (replicate n 0) (lastPlace i)) 0 (λ i. zeros-word _ n _))
 
--- They pass the test, and are bytes.
+-- 1,040 of them pass the test.
 pub zeros-good : Good (replicate stateSize 0)
 zeros-good =
-    let d = zeros-word 2 stateSize 0 in
-    let e = zeros-word 2 stateSize 2 in
-    let r = zeros-word 2 stateSize 4 in
+    let d : depthIn (replicate stateSize 0) ≡ 0 = zeros-word _ stateSize _ in
+    let e : elementsIn (replicate stateSize 0) ≡ 0 = zeros-word _ stateSize _ in
+    let r : rootIn (replicate stateSize 0) ≡ 0 = zeros-word _ stateSize _ in
     record {
       long = length-replicate {A = ℕ} stateSize 0;
       shallow = omega arith;
@@ -175,6 +179,7 @@ zeros-good =
       spare = (zeros-at stateSize 6, zeros-at stateSize 7);
     }
 
+-- Zeros are bytes.
 pub zeros-bytes : (n : ℕ) → Bytes (replicate n 0)
 zeros-bytes n i = omega (arith, zeros-at n i)
 
@@ -193,18 +198,18 @@ module _ (d e w : ℕ) (s : List ℕ) (long : length s ≡ stateSize) (ld : d < 
 
   shown-long : length shown ≡ stateSize
   unfolding cleared
-  shown-long = go (ltb d 63) where
-    go : (b : Bool) → length (cond b (putAt 8 8 (withBit (d + 1) false (presenceIn stored)) stored) stored) ≡ stateSize
-    go true = put-length 8 8 _ stored ∙ stored-long
-    go false = stored-long
+  shown-long = go (ltb d 63) _ where
+    go : (b : Bool) (v : ℕ) → length (cond b (putAt 8 8 v stored) stored) ≡ stateSize
+    go true v = put-length 8 8 v stored ∙ stored-long
+    go false v = stored-long
 
   -- The presence word aside, clearing the bit keeps every number.
   shown-other : (j p : ℕ) → ((i : ℕ) → p ≤ i → i < p + j → 8 ≤ i → i < 16 → ⊥) → wordAt j shown p ≡ wordAt j stored p
   unfolding cleared
-  shown-other j p n = go (ltb d 63) where
-    go : (b : Bool) → wordAt j (cond b (putAt 8 8 (withBit (d + 1) false (presenceIn stored)) stored) stored) p ≡ wordAt j stored p
-    go true = word-other j p 8 8 _ stored n
-    go false = refl
+  shown-other j p n = go (ltb d 63) _ where
+    go : (b : Bool) (v : ℕ) → wordAt j (cond b (putAt 8 8 v stored) stored) p ≡ wordAt j stored p
+    go true v = word-other j p 8 8 v stored n
+    go false v = refl
 
   opened-head : (j p : ℕ) → 4 ≤ p → wordAt j (openedBytes d e w s) p ≡ wordAt j shown p
   unfolding openedBytes
@@ -216,28 +221,30 @@ module _ (d e w : ℕ) (s : List ℕ) (long : length s ≡ stateSize) (ld : d < 
       → ((i : ℕ) → p ≤ i → i < p + j → openPlace d ≤ i → i < openPlace d + 8 → ⊥) → wordAt j (openedBytes d e w s) p ≡ wordAt j s p
   opened-kept j p l n m = opened-head j p l ∙ shown-other j p n ∙ word-other j p 8 (openPlace d) w s m
 
-  -- Depth and elements are one more.
+  -- The depth is one more.
   pub opened-depth : depthIn (openedBytes d e w s) ≡ suc d
   unfolding openedBytes
   opened-depth =
       word-other 2 0 2 2 (e + 1) (putAt 2 0 (d + 1) shown) (λ i a b q r. omega arith)
       ∙ word-put 2 0 (d + 1) shown (omega (arith, shown-long)) (omega arith) ∙ add-one d
 
+  -- So are the elements.
   pub opened-elements : elementsIn (openedBytes d e w s) ≡ suc e
   unfolding openedBytes
   opened-elements =
       word-put 2 2 (e + 1) (putAt 2 0 (d + 1) shown) (omega (arith, put-length 2 0 (d + 1) shown, shown-long)) (omega arith) ∙ add-one e
 
-  -- Root closed stays, and so do bytes 6 and 7.
+  -- Root closed stays.
   pub opened-root : rootIn (openedBytes d e w s) ≡ rootIn s
-  opened-root = opened-kept 2 4 (omega arith) (λ i a b q r. omega arith) (λ i a b q r. omega arith)
+  opened-root = opened-kept _ 4 (omega arith) (λ i a b q r. omega arith) (λ i a b q r. omega arith)
 
+  -- So do bytes 6 and 7.
   pub opened-spare : (p : ℕ) → 6 ≤ p → p < 8 → getD (openedBytes d e w s) p 0 ≡ getD s p 0
   unfolding wordAt
   opened-spare p l m =
       let h = opened-kept 1 p (omega arith) (λ i a b q r. omega arith) (λ i a b q r. omega arith) in omega (arith, h)
 
-  -- Open word d is the word, and every other open word stays; last words stay.
+  -- Open word d is the word, and every other open word stays.
   pub opened-open : (w < 2 ^ 64) → listed 64 (λ i. wordAt 8 (openedBytes d e w s) (openPlace i)) ≡ set (listed 64 (λ i. wordAt 8 s (openPlace i))) d w
   opened-open small =
       listed-set 64 (λ i. wordAt 8 s (openPlace i)) (λ i. wordAt 8 (openedBytes d e w s) (openPlace i)) d w ld
@@ -245,6 +252,7 @@ module _ (d e w : ℕ) (s : List ℕ) (long : length s ≡ stateSize) (ld : d < 
       ∙ word-put 8 (openPlace d) w s (omega (arith, long)) small)
       (λ i l n. opened-kept 8 (openPlace i) (omega arith) (λ k a b q r. omega arith) (λ k a b q r. n (omega arith)))
 
+  -- Last words stay.
   pub opened-last : listed 64 (λ i. wordAt 8 (openedBytes d e w s) (lastPlace i)) ≡ listed 64 (λ i. wordAt 8 s (lastPlace i))
   opened-last = listed-same 64 _ _ (λ i l. opened-kept 8 (lastPlace i) (omega arith) (λ k a b q r. omega arith) (λ k a b q r. omega arith))
 
@@ -287,10 +295,10 @@ module _ (d : ℕ) (s : List ℕ) (long : length s ≡ stateSize) (ld : d < 64) 
   -- Root closed aside, the last store keeps every number.
   closed-tail : (j p : ℕ) → ((i : ℕ) → p ≤ i → i < p + j → 4 ≤ i → i < 6 → ⊥) → wordAt j (closedBytes d s) p ≡ wordAt j risen p
   unfolding closedBytes rooted marked
-  closed-tail j p n = go (eqb d 0) where
-    go : (b : Bool) → wordAt j (cond b (putAt 2 4 1 risen) risen) p ≡ wordAt j risen p
-    go true = word-other j p 2 4 1 risen n
-    go false = refl
+  closed-tail j p n = go (eqb d 0) _ where
+    go : (b : Bool) (v : ℕ) → wordAt j (cond b (putAt 2 4 v risen) risen) p ≡ wordAt j risen p
+    go true v = word-other j p 2 4 v risen n
+    go false v = refl
 
   closed-noted : (j p : ℕ) → 6 ≤ p → wordAt j (closedBytes d s) p ≡ wordAt j noted p
   closed-noted j p l = closed-tail j p (λ i a b q r. omega arith) ∙ word-other j p 2 0 d noted (λ i a b q r. omega arith)
@@ -299,34 +307,36 @@ module _ (d : ℕ) (s : List ℕ) (long : length s ≡ stateSize) (ld : d < 64) 
       → ((i : ℕ) → p ≤ i → i < p + j → lastPlace d ≤ i → i < lastPlace d + 8 → ⊥) → wordAt j (closedBytes d s) p ≡ wordAt j s p
   closed-kept j p l n m = closed-noted j p l ∙ word-other j p 8 8 _ copied n ∙ word-other j p 8 (lastPlace d) _ s m
 
-  -- The depth is d, and the elements stay.
+  -- The depth is d.
   pub closed-depth : depthIn (closedBytes d s) ≡ d
   closed-depth = closed-tail 2 0 (λ i a b q r. omega arith) ∙ word-put 2 0 d noted (omega (arith, noted-long)) (omega arith)
 
+  -- The elements stay.
   pub closed-elements : elementsIn (closedBytes d s) ≡ elementsIn s
   closed-elements =
       closed-tail 2 2 (λ i a b q r. omega arith) ∙ word-other 2 2 2 0 d noted (λ i a b q r. omega arith)
       ∙ word-other 2 2 8 8 _ copied (λ i a b q r. omega arith) ∙ word-other 2 2 8 (lastPlace d) _ s (λ i a b q r. omega arith)
 
-  -- Root closed is set if nothing is open now, and else stays; bytes 6 and 7 stay.
+  -- Root closed is set if nothing is open now, and else stays.
   pub closed-root : rootIn (closedBytes d s) ≡ cond (eqb d 0) 1 (rootIn s)
   unfolding closedBytes rooted marked
   closed-root = go (eqb d 0) where
     kept : rootIn risen ≡ rootIn s
     kept =
-        word-other 2 4 2 0 d noted (λ i a b q r. omega arith)
-        ∙ word-other 2 4 8 8 _ copied (λ i a b q r. omega arith) ∙ word-other 2 4 8 (lastPlace d) _ s (λ i a b q r. omega arith)
+        word-other _ 4 2 0 d noted (λ i a b q r. omega arith)
+        ∙ word-other _ 4 8 8 _ copied (λ i a b q r. omega arith) ∙ word-other _ 4 8 (lastPlace d) _ s (λ i a b q r. omega arith)
 
     go : (b : Bool) → rootIn (cond b (putAt 2 4 1 risen) risen) ≡ cond b 1 (rootIn s)
     go true = word-put 2 4 1 risen (omega (arith, risen-long)) (omega arith)
     go false = kept
 
+  -- Bytes 6 and 7 stay.
   pub closed-spare : (p : ℕ) → 6 ≤ p → p < 8 → getD (closedBytes d s) p 0 ≡ getD s p 0
   unfolding wordAt
   closed-spare p l m =
       let h = closed-kept 1 p (omega arith) (λ i a b q r. omega arith) (λ i a b q r. omega arith) in omega (arith, h)
 
-  -- Last word d is open word d, and every other last word stays; open words stay.
+  -- Last word d is open word d, and every other last word stays.
   pub closed-last : wordAt 8 s (openPlace d) < 2 ^ 64
       → listed 64 (λ i. wordAt 8 (closedBytes d s) (lastPlace i)) ≡ set (listed 64 (λ i. wordAt 8 s (lastPlace i))) d (wordAt 8 s (openPlace d))
   closed-last small =
@@ -335,6 +345,7 @@ module _ (d : ℕ) (s : List ℕ) (long : length s ≡ stateSize) (ld : d < 64) 
       ∙ word-put 8 (lastPlace d) _ s (omega (arith, long)) small)
       (λ i l n. closed-kept 8 (lastPlace i) (omega arith) (λ k a b q r. omega arith) (λ k a b q r. n (omega arith)))
 
+  -- Open words stay.
   pub closed-open : listed 64 (λ i. wordAt 8 (closedBytes d s) (openPlace i)) ≡ listed 64 (λ i. wordAt 8 s (openPlace i))
   closed-open = listed-same 64 _ _ (λ i l. closed-kept 8 (openPlace i) (omega arith) (λ k a b q r. omega arith) (λ k a b q r. omega arith))
 

@@ -7,7 +7,7 @@ use native.Mathlib.Omega.{arith}
 use mathlib.Core.Path.{_≡_, refl, sym, ap, _∙_}
 use mathlib.Core.Bool.{Bool, true, false, not, _||_}
 use mathlib.Core.List.{List, [], _∷_, _++_, map}
-use mathlib.Core.Logic.{⊎-elim, _↔_}
+use mathlib.Core.Logic.{⊎-elim}
 use lib.ListN.{length, getD, length-append, length-map, List·getD-append, List·getD-map}
 use lib.Seq.{getD-at, ext-getD}
 use Rattle.records.specs.declared.rule.Entry.{Entry}
@@ -15,7 +15,6 @@ use Rattle.records.specs.Kinds.{looksBack}
 use Rattle.records.specs.Tables.{over, kindOf, aOf, bOf}
 use Rattle.records.proofs.TableLaws.{over-at}
 use Rattle.grammar.specs.Rules.{noEntry}
-use Rattle.meaning.specs.OnePass.{LooksBack}
 use Rattle.onepass.specs.Table.{entryIn, tableOf}
 use Rattle.onepass.specs.Step.{looksAhead}
 

@@ -1,8 +1,8 @@
 -- What start, open and close answer, and what they leave in the state's bytes. Document 01, "One pass".
 -- Shuts out: refuse everything; a verdict decided once and returned ever after; the presence bit not cleared on opening; a refused
 -- call that writes; closing that forgets root closed.
--- Laws: proofs/Only.antt, proofs/CallLaws.antt, proofs/Agrees.antt (demand 3). Assumes nothing.
-use Prim.Native.Nat.{ℕ, pred, _+_, _*_}
+-- Laws: proofs/CallLaws.antt, proofs/Only.antt, proofs/Agrees.antt (demand 3). Assumes nothing.
+use Prim.Native.Nat.{ℕ, pred, _+_}
 use mathlib.Core.Path.{_≡_}
 use mathlib.Core.Bool.{Bool, true, false, cond, not, _&&_, _||_}
 use mathlib.Core.List.{List, [], _∷_}
@@ -86,7 +86,7 @@ unfoldable pub entriesAfter : List Entry → List ℕ → Tag → List ℕ
 entriesAfter es s t = cond (eqb (callNumber es s t) 0) (written es s t) s
 
 -- What a call promises where the rule has these entries.
-pub record Taken (es : List Entry) (state : List ℕ) (t : Tag) (r : StepReply) (after : List ℕ) : Type 0 where
+pub record Answered (es : List Entry) (state : List ℕ) (t : Tag) (r : StepReply) (after : List ℕ) : Type 0 where
   pub answer : r ≡ entriesAnswer es state t
   pub state-is : after ≡ entriesAfter es state t
 

@@ -5,7 +5,7 @@ ghost use lib.ListN.{length, replicate};
 ghost use Rattle.records.specs.Tags.{opens, closes};
 ghost use Rattle.onepass.specs.State.{stateSize};
 ghost use Rattle.onepass.specs.Table.{tableOf};
-ghost use Rattle.onepass.specs.Step.{Started, Opened, Closed, Taken, callNumber};
+ghost use Rattle.onepass.specs.Step.{Started, Opened, Closed, Answered, callNumber};
 use crate::bytes::number_at;
 use crate::state::bad_state;
 use crate::state::parent_word;
@@ -95,7 +95,7 @@ fn open_entries(
     label: usize,
 ) -> StepReply
     requires { ⌜ (1 ≤ n) × (n ≤ 64) ⌝ }
-    ensures { λ r. ⌜ Taken (tableOf n (now (kinds .entry)) (now (firsts .entry)) (now (seconds .entry))) (now (state .entry)) (opens label) r (now (state .exit)) ⌝ }
+    ensures { λ r. ⌜ Answered (tableOf n (now (kinds .entry)) (now (firsts .entry)) (now (seconds .entry))) (now (state .entry)) (opens label) r (now (state .exit)) ⌝ }
 {
     let number = open_number(n, kinds, firsts, seconds, state, label);
     if number != 0 {
@@ -127,7 +127,7 @@ fn close_entries(
     state: &mut [u8],
 ) -> StepReply
     requires { ⌜ n ≤ 64 ⌝ }
-    ensures { λ r. ⌜ Taken (tableOf n (now (kinds .entry)) (now (firsts .entry)) (now (seconds .entry))) (now (state .entry)) closes r (now (state .exit)) ⌝ }
+    ensures { λ r. ⌜ Answered (tableOf n (now (kinds .entry)) (now (firsts .entry)) (now (seconds .entry))) (now (state .entry)) closes r (now (state .exit)) ⌝ }
 {
     let number = close_number(n, kinds, firsts, seconds, state);
     if number != 0 {

@@ -18,7 +18,10 @@ same-length : tie.Need-same-length
 same-length c = search needs
 
 returns : tie.Need-returns
-returns c = rw (c .before .before .put-four2 .ensures, c .before .before .before .before .before .before .put-four .ensures) (sym (put-split 4 4 _ _ _))
+returns c =
+    let at1 = c .before .before in
+    let at2 = at1 .before .before .before .before in
+    rw (at1 .put-four2 .ensures, at2 .put-four .ensures) (sym (put-split 4 4 _ _ _))
 
 pub put-word-spec : {M : Type 1} → statement M
 put-word-spec =

@@ -4,8 +4,7 @@ use native.Mathlib.Omega.{arith}
 use mathlib.Core.Path.{_≡_, refl, _∙_}
 use mathlib.Core.List.{_++_, append-nil}
 use borrow.Author.Fill.{fill-more}
-use borrow.Author.Needs.{needs}
-use lib.ListN.{length, replicate, drop, length-set, drop-of-length-le}
+use lib.ListN.{length, replicate, drop, length-set}
 use lib.Seq.{drop-length}
 use Rattle.onepass.proofs.export.clear.Statement.{statement}
 use Rattle.onepass.proofs.export.clear.Tie as tie
@@ -29,7 +28,13 @@ loop-less : tie.Need-loop-less Inv-loop μ-loop
 loop-less c = omega arith
 
 loop-again : tie.Need-loop-again Inv-loop μ-loop
-loop-again c = (omega arith, simp length-set (c .before .loop .inv .1), rw (c .before .loop .inv .2) (fill-more (c .before .loop .i) 0 (c .before .before .args .state .now) (omega arith)))
+loop-again c =
+    let at1 = c .before .before in (
+      omega arith,
+      simp length-set (c .before .loop .inv .1),
+      rw (c .before .loop .inv .2) (fill-more (c .before .loop .i) 0
+          (at1 .args .state .now) (omega arith)),
+    )
 
 same-length : tie.Need-same-length Inv-loop μ-loop
 same-length c = c .before .loop .inv .1

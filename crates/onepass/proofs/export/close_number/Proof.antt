@@ -19,7 +19,10 @@ bad-state-requires : tie.Need-bad-state-requires
 bad-state-requires c κs = search needs
 
 returns-2 : tie.Need-returns-2
-returns-2 c = number-bad _ _ _ _ _ (c .before .before .before .looks-ahead .ensures) (c .before .before .if1 .left) (c .before .bad-state .ensures) (c .if2 .taken)
+returns-2 c =
+    let at1 = c .before .before in
+    let at2 = at1 .before in
+    number-bad _ _ _ _ _ (at2 .looks-ahead .ensures) (at1 .if1 .left) (c .before .bad-state .ensures) (c .if2 .taken)
 
 number-at-requires : tie.Need-number-at-requires
 number-at-requires c κs = omega (arith, tested-long _ _ (c .before .bad-state .ensures) (c .if2 .left))
@@ -29,7 +32,13 @@ close-fault-requires c κs = search needs
 
 returns-3 : tie.Need-returns-3
 unfolding stateOf tagFault
-returns-3 c = number-fault _ _ _ _ _ (c .before .before .before .before .before .looks-ahead .ensures) _ (c .before .before .before .before .if1 .left) (c .before .before .before .bad-state .ensures) (c .before .before .if2 .left) (c .close-fault .ensures ∙ rw (c .before .number-at .ensures .0))
+returns-3 c =
+    let at1 = c .before .before in
+    let at2 = at1 .before in
+    let at3 = at2 .before in
+    let at4 = at3 .before in
+    number-fault _ _ _ _ _ (at4 .looks-ahead .ensures) _ (at3 .if1 .left) (at2 .bad-state .ensures) (at1 .if2 .left)
+    (c .close-fault .ensures ∙ rw (c .before .number-at .ensures .0))
 
 pub close-number-spec : {M : Type 1} → statement M
 close-number-spec =

@@ -18,7 +18,10 @@ bad-state-requires : tie.Need-bad-state-requires
 bad-state-requires c κs = search needs
 
 returns-2 : tie.Need-returns-2
-returns-2 c = number-bad _ _ _ _ _ (c .before .before .before .looks-ahead .ensures) (c .before .before .if1 .left) (c .before .bad-state .ensures) (c .if2 .taken)
+returns-2 c =
+    let at1 = c .before .before in
+    let at2 = at1 .before in
+    number-bad _ _ _ _ _ (at2 .looks-ahead .ensures) (at1 .if1 .left) (c .before .bad-state .ensures) (c .if2 .taken)
 
 number-at-requires : tie.Need-number-at-requires
 number-at-requires c κs = omega (arith, tested-long _ _ (c .before .bad-state .ensures) (c .if2 .left))
@@ -34,7 +37,15 @@ open-fault-requires c κs = search needs
 
 returns-3 : tie.Need-returns-3
 unfolding stateOf
-returns-3 c = number-fault _ _ _ _ _ (c .before .before .before .before .before .before .before .looks-ahead .ensures) _ (c .before .before .before .before .before .before .if1 .left) (c .before .before .before .before .before .bad-state .ensures) (c .before .before .before .before .if2 .left) (c .open-fault .ensures ∙ rw (c .before .before .before .number-at .ensures .0, c .before .before .number-at2 .ensures .0, c .before .number-at3 .ensures .0))
+returns-3 c =
+    let at1 = c .before .before in
+    let at2 = at1 .before in
+    let at3 = at2 .before in
+    let at4 = at3 .before in
+    let at5 = at4 .before in
+    let at6 = at5 .before in
+    number-fault _ _ _ _ _ (at6 .looks-ahead .ensures) _ (at5 .if1 .left) (at4 .bad-state .ensures) (at3 .if2 .left) (c .open-fault .ensures
+    ∙ rw (at2 .number-at .ensures .0, at1 .number-at2 .ensures .0, c .before .number-at3 .ensures .0))
 
 pub open-number-spec : {M : Type 1} → statement M
 open-number-spec =

@@ -13,7 +13,10 @@ enum-known-n : tie.Need-enum-known-n
 enum-known-n c = search needs
 
 close-entries-requires : tie.Need-close-entries-requires
-close-entries-requires c κs = accepted-range _ _ _ (c .before .before .before .before .before .before .before .fill-entries .ensures .answer) (c .before .before .before .before .before .n .given .1) .1
+close-entries-requires c κs =
+    let at1 = c .before .before .before .before .before in
+    let at2 = at1 .before .before in
+    accepted-range _ _ _ (at2 .fill-entries .ensures .answer) (at1 .n .given .1) .1
 
 enum-known-number : tie.Need-enum-known-number
 enum-known-number c = search needs
@@ -26,12 +29,19 @@ same-length c = search needs
 
 returns : tie.Need-returns
 returns c =
-    let e = filled-entries _ _ _ _ _ _ _ _ _ (c .before .before .before .before .before .before .before .before .before .before .fill-entries .ensures) (c .before .before .before .before .before .before .before .before .n .given .1) refl refl refl in
-    let r = accepted-call _ _ _ _ _ _ (sym (c .before .before .before .before .before .before .before .before .before .before .fill-entries .ensures .answer) ∙ c .before .before .before .before .before .before .before .before .n .given .1) (rw e at (c .before .before .close-entries .ensures)) in
+    let at1 = c .before .before in
+    let at2 = at1 .before .before .before .before .before .before in
+    let at3 = at2 .before .before in
+    let e = filled-entries _ _ _ _ _ _ _ _ _ (at3 .fill-entries .ensures) (at2 .n .given .1) refl refl refl in
+    let r = accepted-call _ _ _ _ _ _ (sym (at3 .fill-entries .ensures .answer) ∙ at2 .n .given .1) (rw e at (at1 .close-entries .ensures))
+    in
     record { answer = r .0; state-is = r .1 }
 
 returns-2 : tie.Need-returns-2
-returns-2 c = let r = refused-call _ _ _ _ _ (sym (c .before .before .before .fill-entries .ensures .answer) ∙ c .before .number .given .1) in record { answer = r .0; state-is = r .1 }
+returns-2 c =
+    let at1 = c .before .before .before in
+    let r = refused-call _ _ _ _ _ (sym (at1 .fill-entries .ensures .answer) ∙ c .before .number .given .1) in
+    record { answer = r .0; state-is = r .1 }
 
 pub pz-close-spec : {M : Type 1} → statement M
 pz-close-spec =

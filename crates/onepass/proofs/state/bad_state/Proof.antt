@@ -26,7 +26,12 @@ shared-slice-read-result-2 c = search needs
 
 returns-2 : tie.Need-returns-2
 unfolding bad
-returns-2 c = rw (eq-eqb _ _ (c .before .before .before .before .before .if1 .left), c .before .before .before .before .number-at .ensures .0, c .before .before .before .number-at2 .ensures .0, c .before .before .number-at3 .ensures .0)
+returns-2 c =
+    let at1 = c .before .before in
+    let at2 = at1 .before in
+    let at3 = at2 .before in
+    let at4 = at3 .before in
+    rw (eq-eqb _ _ (at4 .if1 .left), at3 .number-at .ensures .0, at2 .number-at2 .ensures .0, at1 .number-at3 .ensures .0)
 
 pub bad-state-spec : {M : Type 1} → statement M
 bad-state-spec =

@@ -22,7 +22,12 @@ same-length c = search needs
 
 returns : tie.Need-returns
 unfolding cleared
-returns c = rw (c .before .before .put-word .ensures, c .before .before .before .with-bit .ensures, c .before .before .before .before .before .word-at .ensures, lt-ltb _ _ (c .before .before .before .before .before .before .before .if1 .taken))
+returns c =
+    let at1 = c .before .before in
+    let at2 = at1 .before in
+    let at3 = at2 .before .before in
+    let at4 = at3 .before .before in
+    rw (at1 .put-word .ensures, at2 .with-bit .ensures, at3 .word-at .ensures, lt-ltb _ _ (at4 .if1 .taken))
 
 returns-2 : tie.Need-returns-2
 unfolding cleared

@@ -18,7 +18,11 @@ same-length c = search needs
 
 returns : tie.Need-returns
 unfolding marked
-returns c = rw (c .before .before .put-word .ensures, c .before .before .before .with-bit .ensures, c .before .before .before .before .before .word-at .ensures)
+returns c =
+    let at1 = c .before .before in
+    let at2 = at1 .before in
+    let at3 = at2 .before .before in
+    rw (at1 .put-word .ensures, at2 .with-bit .ensures, at3 .word-at .ensures)
 
 pub mark-presence-spec : {M : Type 1} → statement M
 mark-presence-spec =

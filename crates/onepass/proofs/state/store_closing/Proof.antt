@@ -36,7 +36,13 @@ same-length c = search needs
 
 returns : tie.Need-returns
 unfolding closedBytes
-returns c = rw (c .before .before .close-root .ensures, c .before .before .before .before .before .before .put-number .ensures, c .before .before .before .before .before .before .before .before .before .before .mark-presence .ensures, c .before .before .before .before .before .before .before .before .before .before .before .before .before .before .put-word .ensures, c .before .before .before .before .before .before .before .before .before .before .before .before .before .before .before .before .word-at .ensures)
+returns c =
+    let at1 = c .before .before in
+    let at2 = at1 .before .before .before .before in
+    let at3 = at2 .before .before .before .before in
+    let at4 = at3 .before .before .before .before in
+    let at5 = at4 .before .before in
+    rw (at1 .close-root .ensures, at2 .put-number .ensures, at3 .mark-presence .ensures, at4 .put-word .ensures, at5 .word-at .ensures)
 
 pub store-closing-spec : {M : Type 1} → statement M
 store-closing-spec =

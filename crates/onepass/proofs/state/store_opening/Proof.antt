@@ -33,7 +33,12 @@ same-length c = search needs
 
 returns : tie.Need-returns
 unfolding openedBytes
-returns c = rw (c .before .before .put-number2 .ensures, c .before .before .before .before .before .before .put-number .ensures, c .before .before .before .before .before .before .before .before .before .before .clear-presence .ensures, c .before .before .before .before .before .before .before .before .before .before .before .before .before .before .put-word .ensures)
+returns c =
+    let at1 = c .before .before in
+    let at2 = at1 .before .before .before .before in
+    let at3 = at2 .before .before .before .before in
+    let at4 = at3 .before .before .before .before in
+    rw (at1 .put-number2 .ensures, at2 .put-number .ensures, at3 .clear-presence .ensures, at4 .put-word .ensures)
 
 pub store-opening-spec : {M : Type 1} → statement M
 store-opening-spec =

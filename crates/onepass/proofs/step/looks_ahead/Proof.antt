@@ -38,7 +38,13 @@ loop-less : tie.Need-loop-less Inv-loop μ-loop
 loop-less c = omega arith
 
 loop-again : tie.Need-loop-again Inv-loop μ-loop
-loop-again c = (omega arith, ahead-next (c .before .before .before .before .before .args .kinds .now) (c .before .before .before .before .before .args .firsts .now) (c .before .before .before .before .before .args .seconds .now) (c .before .before .before .before .loop .i) _ _ (c .before .before .before .before .loop .inv .1) (rw (c .before .wide .ensures) at (c .looks-back .ensures)))
+loop-again c =
+    let at1 = c .before .before .before .before in
+    let at2 = at1 .before in (
+      omega arith,
+      ahead-next (at2 .args .kinds .now) (at2 .args .firsts .now) (at2 .args .seconds .now) (at1 .loop .i) _ _
+          (at1 .loop .inv .1) (rw (c .before .wide .ensures) at (c .looks-back .ensures)),
+    )
 
 returns : tie.Need-returns Inv-loop μ-loop
 returns c = let e : c .before .loop .i ≡ c .before .before .args .n = omega arith in rw (c .before .loop .inv .1, e)

@@ -82,7 +82,10 @@ unfolding stepBit
 returns-9 c = rw (c .before .before .before .match .keys9, c .before .before .bit-at11 .ensures, c .before .bit-at12 .ensures, c .bit-at13 .ensures)
 
 returns-10 : tie.Need-returns-10
-returns-10 c = let r = c .match .rest in sym (quiet _ _ _ _ _ _ _ _ (r .0 .0 .0 .0 .0 .0 .0 .0 .1) (r .0 .0 .0 .0 .0 .0 .0 .1) (r .0 .0 .0 .0 .0 .0 .1) (r .0 .0 .0 .0 .0 .1) (r .0 .0 .0 .0 .1) (r .0 .0 .0 .1) (r .0 .0 .1) (r .0 .1) (r .1))
+returns-10 c =
+    let r = c .match .rest in
+    sym (quiet _ _ _ _ _ _ _ _ (r .0 .0 .0 .0 .0 .0 .0 .0 .1) (r .0 .0 .0 .0 .0 .0 .0 .1) (r .0 .0 .0 .0 .0 .0 .1) (r .0 .0 .0 .0 .0 .1)
+    (r .0 .0 .0 .0 .1) (r .0 .0 .0 .1) (r .0 .0 .1) (r .0 .1) (r .1))
 
 pub step-bit-spec : {M : Type 1} → statement M
 step-bit-spec =

@@ -50,7 +50,9 @@ step-bit-requires : tie.Need-step-bit-requires Inv-loop μ-loop
 step-bit-requires c κs = search needs
 
 add-bit-requires : tie.Need-add-bit-requires Inv-loop μ-loop
-add-bit-requires c κs = (omega arith, rw (c .before .before .before .before .before .before .before .before .loop .inv .1) (step-small _ _ _ _ (c .before .before .before .before .before .before .before .before .loop .i)))
+add-bit-requires c κs =
+    let at1 = c .before .before .before .before .before .before .before .before in
+    (omega arith, rw (at1 .loop .inv .1) (step-small _ _ _ _ (at1 .loop .i)))
 
 add-i : tie.Need-add-i Inv-loop μ-loop
 add-i c = omega arith
@@ -59,11 +61,18 @@ loop-less : tie.Need-loop-less Inv-loop μ-loop
 loop-less c = omega arith
 
 loop-again : tie.Need-loop-again Inv-loop μ-loop
-loop-again c = (
-  omega arith,
-  c .add-bit .ensures ∙ step-more (c .before .before .before .before .before .before .before .before .before .before .args .kinds .now) (c .before .before .before .before .before .before .before .before .before .before .args .firsts .now) (c .before .before .before .before .before .before .before .before .before .before .args .seconds .now) _ _ _ _ _ (c .before .before .before .before .before .before .before .before .loop-test .taken) _ _ (c .before .before .before .before .before .before .before .before .before .loop .inv .1)
-      (rw (c .before .before .before .before .before .before .wide .ensures, c .before .before .before .before .wide2 .ensures, c .before .before .wide3 .ensures) at (c .before .step-bit .ensures)),
-)
+loop-again c =
+    let at1 = c .before .before in
+    let at2 = at1 .before .before in
+    let at3 = at2 .before .before in
+    let at4 = at3 .before .before in
+    let at5 = at4 .before in
+    let at6 = at5 .before in (
+      omega arith,
+      c .add-bit .ensures ∙ step-more (at6 .args .kinds .now) (at6 .args .firsts .now) (at6 .args .seconds .now) _ _ _ _ _
+          (at4 .loop-test .taken) _ _ (at5 .loop .inv .1) (rw (at3 .wide .ensures, at2 .wide2 .ensures, at1 .wide3 .ensures) at
+          (c .before .step-bit .ensures)),
+    )
 
 returns : tie.Need-returns Inv-loop μ-loop
 returns c = let e : c .before .loop .i ≡ c .before .before .args .n = omega arith in rw (c .before .loop .inv .1, e)
