@@ -1,0 +1,3 @@
+-- Proofs of the program.
+pub mod SplitLaws
+pub mod RecordLaws

@@ -1,0 +1,161 @@
+-- The text from the tables is the text of the meaning; and what an accepted evaluation says. Assumes nothing.
+use Prim.Native.Nat.{ℕ, zero, suc, pred, _+_, _-_, _≤_, _<_}
+use native.Mathlib.Omega.{arith}
+use borrow.Author.Tests.{lt-ltb, le-ltb, eq-eqb, ne-eqb}
+use mathlib.Core.Path.{_≡_, refl, sym, ap, subst, _∙_}
+use mathlib.Core.Bool.{Bool, true, false, cond}
+use mathlib.Core.List.{List, [], _∷_, _++_, flatten}
+use mathlib.Core.Logic.{⊎-elim}
+use lib.Dec.{ltb, eqb}
+use lib.ListN.{length, getD}
+use lib.Seq.{length-sets}
+use Rattle.records.specs.Answer.{countOf}
+use Rattle.records.specs.Rule.{ruleAnswer}
+use Rattle.records.specs.Report.{reportAnswer}
+use Rattle.records.specs.Tables.{entriesOf, labelsOf, levelsOf, over}
+use Rattle.records.specs.declared.answer.Answer.{Answer}
+use Rattle.records.specs.declared.answer.Answer.the-variants.{Accepted, Refused}
+use Rattle.records.specs.Reply.{ruleReply}
+use Rattle.records.specs.declared.export.RuleReply.{RuleReply}
+use Rattle.records.proofs.TableLaws.{over-at}
+use Rattle.grammar.proofs.WhenRule.{rule-numbers}
+use Rattle.grammar.proofs.Entries.{entries-count, entries-some}
+use Rattle.grammar.proofs.Elements.{elements-count, levels-elements, elements-few}
+use Rattle.meaning.specs.Marks.{bitAt, wordOf, verdict, selected}
+use Rattle.evaluate.specs.Evaluation.{judged, evaluation, meantWords, Evaluated}
+use Rattle.evaluate.specs.declared.evaluate.Evaluation.{Evaluation}
+use Rattle.evaluate.proofs.Means.{counted, word-is}
+use Rattle.text.specs.Text.{lineOf, elementLines, acceptedLines, acceptedText, elementLine, headerLine, closingLine, refusedLine}
+use Rattle.text.specs.Rendered.{verdictIn, clamped, tableText, putAt, Rendered}
+use Rattle.polonezar.specs.Output.{acceptedRecord, toldAs, judgedRecord, AcceptedWith}
+
+-- ---- lines that agree
+
+module _ (labels levels labels′ levels′ : List ℕ) (v v′ : ℕ → Bool) where
+  -- Tables that agree on the first n elements have the same lines for these.
+  pub lines-same : (n : ℕ) → ((k : ℕ) → k < n → lineOf labels levels v k ≡ lineOf labels′ levels′ v′ k)
+      → elementLines labels levels v n ≡ elementLines labels′ levels′ v′ n
+  unfolding elementLines
+  lines-same zero same = refl
+  lines-same (suc n) same =
+      ap (λ (ls : List (List ℕ)). ls ++ (lineOf labels levels v n ∷ [])) (lines-same n (λ k h. same k (omega arith)))
+      ∙ ap (λ (l : List ℕ). elementLines labels′ levels′ v′ n ++ (l ∷ [])) (same n (omega arith))
+
+  -- And the same text.
+  pub text-same : (n chosen : ℕ) → ((k : ℕ) → k < n → lineOf labels levels v k ≡ lineOf labels′ levels′ v′ k)
+      → acceptedText labels levels v n chosen ≡ acceptedText labels′ levels′ v′ n chosen
+  unfolding acceptedText acceptedLines
+  text-same n chosen same =
+      ap (λ (ls : List (List ℕ)). flatten (headerLine ∷ (ls ++ (closingLine chosen n ∷ [])))) (lines-same n same)
+
+-- ---- what number 0 says
+
+-- Number 0 is given only where the rule is accepted.
+pub rule-accepted : (rule report : List ℕ) (room : ℕ) → evaluation rule report room .number ≡ 0 → (m : ℕ) × (ruleAnswer rule ≡ Accepted m)
+unfolding evaluation judged
+rule-accepted rule report room z = go (ruleAnswer rule) refl z
+  where
+    none : (k : ℕ) → k ≡ 0 → 1 ≤ k → (m : ℕ) × (ruleAnswer rule ≡ Accepted m)
+    none k z h = absurd (omega arith)
+
+    go : (a : Answer) → ruleAnswer rule ≡ a
+        → judged a (reportAnswer report) room (selected (length (entriesOf rule)) (meantWords rule report)) .number ≡ 0
+        → (m : ℕ) × (ruleAnswer rule ≡ Accepted m)
+    go (Accepted m) f q = (m, f)
+    go (Refused k p) f q =
+        none k q (⊎-elim (λ t. omega arith) (⊎-elim (λ t. omega arith) (⊎-elim (λ t. omega arith) (λ t. omega arith))) (rule-numbers rule k p f))
+
+-- What the evaluator has left where it gave number 0.
+pub accepted-with : (rule report marks after : List ℕ) (r : Evaluation) → Evaluated rule report marks r after → r .number ≡ 0
+    → AcceptedWith rule report after (r .elements) (r .selected)
+accepted-with rule report marks after r e z =
+    let a = rule-accepted rule report (length marks) (ap (λ (x : Evaluation). x .number) (sym (e .answer)) ∙ z) in
+    let c = counted rule report marks r after e z in
+    record {
+      entries = a .0;
+      rule-taken = a .1;
+      marks-are = word-is rule report marks r after e z;
+      elements-are = c .elements-are;
+      chosen-are = c .selected-are;
+    }
+
+-- ---- the text of the tables is the record
+
+pred-sub : (n : ℕ) → n - 1 ≡ pred n
+pred-sub zero = refl
+pred-sub (suc n) = omega arith
+
+-- An accepted rule has an entry, and the reader's reply counts the entries.
+pub entries-known : (rule report marks : List ℕ) (elements chosen : ℕ) (r : RuleReply) → AcceptedWith rule report marks elements chosen
+    → r ≡ ruleReply (ruleAnswer rule) → (1 ≤ r .entries) × (r .entries ≡ length (entriesOf rule))
+entries-known rule report marks elements chosen r a e =
+    let q : r .entries ≡ countOf (ruleAnswer rule) = ap (λ (x : RuleReply). x .entries) e in
+    let k : r .entries ≡ a .entries = q ∙ ap countOf (a .rule-taken) in
+    (rw k (entries-some rule (a .entries) (a .rule-taken)), q ∙ sym (entries-count rule))
+
+-- The last entry's index, as the code works it out.
+pub last-known : (rule report marks : List ℕ) (elements chosen : ℕ) (r : RuleReply) → AcceptedWith rule report marks elements chosen
+    → r ≡ ruleReply (ruleAnswer rule) → r .entries - 1 ≡ pred (length (entriesOf rule))
+last-known rule report marks elements chosen r a e =
+    ap (λ (k : ℕ). k - 1) (entries-known rule report marks elements chosen r a e .1) ∙ pred-sub (length (entriesOf rule))
+
+clamped-few : (n : ℕ) → n ≤ 4096 → clamped n ≡ n
+unfolding clamped
+clamped-few n h = rw (le-ltb 4096 n h)
+
+module _ (rule report marks labels levels labels₁ levels₁ : List ℕ) (elements chosen last : ℕ)
+    (a : AcceptedWith rule report marks elements chosen)
+    (labels-are : labels₁ ≡ over (labelsOf report) labels) (levels-are : levels₁ ≡ over (levelsOf report) levels)
+    (labels-long : length labels ≡ 4096) (levels-long : length levels ≡ 4096)
+    (last-is : last ≡ pred (length (entriesOf rule))) where
+  few : length (levelsOf report) ≤ 4096
+  few = rw (levels-elements report) (elements-few report)
+
+  line-is : (k : ℕ) → k < length (levelsOf report)
+      → lineOf labels₁ levels₁ (verdictIn marks last) k
+      ≡ lineOf (labelsOf report) (levelsOf report) (verdict (entriesOf rule) (levelsOf report) (labelsOf report)) k
+  unfolding verdict
+  line-is k h =
+      rw (
+        labels-are,
+        levels-are,
+        over-at (labelsOf report) labels (omega (arith, few, elements-count report, levels-elements report)) k (omega (arith, elements-count report, levels-elements report)),
+        over-at (levelsOf report) levels (omega (arith, few)) k h,
+        a .marks-are k h,
+        last-is,
+      )
+
+  pub table-is : tableText labels₁ levels₁ marks last elements chosen ≡ acceptedRecord rule report
+  unfolding acceptedRecord
+  table-is =
+      ap (λ (n : ℕ). acceptedText labels₁ levels₁ (verdictIn marks last) n chosen) (ap clamped (a .elements-are) ∙ clamped-few (length (levelsOf report)) few)
+      ∙ text-same labels₁ levels₁ (labelsOf report) (levelsOf report) (verdictIn marks last) (verdict (entriesOf rule) (levelsOf report) (labelsOf report)) (length (levelsOf report)) chosen line-is
+      ∙ ap (λ (c : ℕ). acceptedText (labelsOf report) (levelsOf report) (verdict (entriesOf rule) (levelsOf report) (labelsOf report)) (length (levelsOf report)) c) (a .chosen-are)
+
+  pub accepted-rendered : (out after : List ℕ) (r : ℕ) → Rendered (tableText labels₁ levels₁ marks last elements chosen) out r after
+      → Rendered (acceptedRecord rule report) out r after
+  accepted-rendered out after r h = subst (λ (t : List ℕ). Rendered t out r after) table-is h
+
+-- ---- accepted or refused
+
+module _ (rule report marks marks₁ out after : List ℕ) (n : ℕ) (r : Evaluation) (e : Evaluated rule report marks r marks₁) (long : length marks ≡ 4096) where
+  told : toldAs rule report r ≡ judgedRecord rule report
+  unfolding judgedRecord
+  told = ap (toldAs rule report) (e .answer ∙ ap (evaluation rule report) long)
+
+  pub judged-accepted : r .number ≡ 0 → Rendered (acceptedRecord rule report) out n after → Rendered (judgedRecord rule report) out n after
+  unfolding toldAs
+  judged-accepted z h =
+      subst (λ (t : List ℕ). Rendered t out n after) (ap (λ (b : Bool). cond b (acceptedRecord rule report) (refusedLine (r .number) (r .place))) (sym (eq-eqb (r .number) 0 z)) ∙ told) h
+
+  pub judged-refused : (r .number ≡ 0 → ⊥) → Rendered (refusedLine (r .number) (r .place)) out n after → Rendered (judgedRecord rule report) out n after
+  unfolding toldAs
+  judged-refused z h =
+      subst (λ (t : List ℕ). Rendered t out n after) (ap (λ (b : Bool). cond b (acceptedRecord rule report) (refusedLine (r .number) (r .place))) (sym (ne-eqb (r .number) 0 z)) ∙ told) h
+
+-- ---- the bytes that are written
+
+-- What was rendered fits the buffer, and the prefix that is written out is all of it.
+pub rendered-room : (text out after : List ℕ) (r : ℕ) → length out ≡ 81920 → Rendered text out r after → r ≤ length after
+unfolding putAt
+rendered-room text out after r long h = omega (arith, h .length-is, h .fits, ap length (h .bytes-are), length-sets out 0 text)

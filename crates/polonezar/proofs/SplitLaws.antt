@@ -1,0 +1,77 @@
+-- What the split of the input comes to, branch by branch. Assumes nothing.
+use Prim.Native.Nat.{ℕ, _+_, _-_, _≤_, _<_}
+use native.Mathlib.Omega.{arith}
+use borrow.Author.Tests.{lt-ltb, le-ltb, ltb-false}
+use mathlib.Core.Path.{_≡_, refl, sym, ap, subst, _∙_}
+use mathlib.Core.Bool.{Bool, true, false, cond}
+use mathlib.Core.List.{List}
+use lib.Dec.{ltb}
+use lib.ListN.{length, take, drop, length-drop}
+use lib.Seq.{take-all}
+use Rattle.text.specs.Text.{refusedLine}
+use Rattle.text.specs.Rendered.{Rendered}
+use Rattle.polonezar.specs.Input.{ruleIn, reportIn, ruleEnd, unsplit, split, splitOf}
+use Rattle.polonezar.specs.Output.{judgedRecord, splitRecord, recordOf}
+use Rattle.polonezar.specs.declared.split.Halves.{Halves}
+
+pub split-short : (s : List ℕ) → length s < 2 → unsplit ≡ splitOf s
+unfolding splitOf
+split-short s h = rw (lt-ltb (length s) 2 h)
+
+pub split-long : (s : List ℕ) (end : ℕ) → end ≡ ruleEnd s → 2 ≤ length s → length s < end → unsplit ≡ splitOf s
+unfolding splitOf
+split-long s end e h l = rw (le-ltb (length s) 2 h, lt-ltb (length s) (ruleEnd s) (omega (arith, e)))
+
+pub split-fits : (s : List ℕ) (end : ℕ) → end ≡ ruleEnd s → 2 ≤ length s → end ≤ length s → split end ≡ splitOf s
+unfolding splitOf
+split-fits s end e h l =
+    rw (le-ltb (length s) 2 h, le-ltb (length s) (ruleEnd s) (omega (arith, e))) (ap split e)
+
+-- The rule ends past its length and within the input.
+record Within (s : List ℕ) (end : ℕ) : Type 0 where
+  low : 2 ≤ end
+  high : end ≤ length s
+
+split-room : (s : List ℕ) (w : Halves) → w ≡ splitOf s → w .fits ≡ true → Within s (w .end)
+unfolding splitOf ruleEnd
+split-room s w e f = go (ltb (length s) 2) (ltb (length s) (ruleEnd s)) refl refl e
+  where
+    none : false ≡ true → Within s (w .end)
+    none q = absurd (let z : _≡_ {A = ℕ} 0 1 = ap (λ (b : Bool). cond b 1 0) q in omega arith)
+
+    go : (a b : Bool) → ltb (length s) 2 ≡ a → ltb (length s) (ruleEnd s) ≡ b
+        → w ≡ cond a unsplit (cond b unsplit (split (ruleEnd s))) → Within s (w .end)
+    go true b p q h = none (sym (ap (λ (x : Halves). x .fits) h) ∙ f)
+    go false true p q h = none (sym (ap (λ (x : Halves). x .fits) h) ∙ f)
+    go false false p q h =
+        let k = ap (λ (x : Halves). x .end) h in
+        record { low = omega (arith, k); high = omega (arith, k, ltb-false (length s) (ruleEnd s) q) }
+
+-- Where the input has its rule, the rule ends past its length and within the input.
+pub split-fine : (s : List ℕ) (w : Halves) → w ≡ splitOf s → w .fits ≡ true → (2 ≤ w .end) × (w .end ≤ length s)
+split-fine s w e f = (split-room s w e f .low, split-room s w e f .high)
+
+module _ (s out after : List ℕ) (n : ℕ) (w : Halves) (e : w ≡ splitOf s) where
+  -- The record of an input is that of its halves.
+  pub record-split : w .fits ≡ true → Rendered (judgedRecord (ruleIn s (w .end)) (reportIn s (w .end))) out n after
+      → Rendered (recordOf s) out n after
+  unfolding splitRecord
+  record-split f h =
+      subst (λ (t : List ℕ). Rendered t out n after)
+      (ap (λ (b : Bool). cond b (judgedRecord (ruleIn s (w .end)) (reportIn s (w .end))) (refusedLine 1 0)) (sym f) ∙ ap (splitRecord s) e) h
+
+  -- And refusal 1 where it has none.
+  pub record-unsplit : w .fits ≡ false → Rendered (refusedLine 1 0) out n after → Rendered (recordOf s) out n after
+  unfolding splitRecord
+  record-unsplit f h =
+      subst (λ (t : List ℕ). Rendered t out n after)
+      (ap (λ (b : Bool). cond b (judgedRecord (ruleIn s (w .end)) (reportIn s (w .end))) (refusedLine 1 0)) (sym f) ∙ ap (splitRecord s) e) h
+
+-- All that follows the rule's end is a slice to the input's end.
+pub halves-rendered : (s out after : List ℕ) (end n : ℕ)
+    → Rendered (judgedRecord (take (end - 2) (drop 2 s)) (take (length s - end) (drop end s))) out n after
+    → Rendered (judgedRecord (ruleIn s end) (reportIn s end)) out n after
+unfolding ruleIn reportIn
+halves-rendered s out after end n h =
+    subst (λ (t : List ℕ). Rendered (judgedRecord (take (end - 2) (drop 2 s)) t) out n after)
+    (take-all (length s - end) (drop end s) (simp length-drop (omega arith))) h

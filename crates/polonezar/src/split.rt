@@ -1,0 +1,45 @@
+// Where the rule ends in the input.
+ghost use mathlib.Core.Path.{_≡_};
+ghost use Prim.Native.Nat.{_<_};
+ghost use lib.ListN.{length};
+ghost use Rattle.polonezar.specs.Input.{ruleEnd, splitOf};
+
+// Whether the input has a rule of the length that it says, and where that rule ends.
+pub struct Halves {
+    pub fits: bool,
+    pub end: usize,
+}
+
+fn byte(x: u8) -> usize
+    ensures { λ r. ⌜ (r ≡ x) × (r < 256) ⌝ }
+{
+    x as usize
+}
+
+// Where the rule ends, by the length that the first two bytes say.
+fn rule_end(input: &[u8]) -> usize
+    requires { ⌜ 1 < length (now input) ⌝ }
+    ensures { λ r. ⌜ r ≡ ruleEnd (now (input .entry)) ⌝ }
+{
+    2 + (byte(input[0]) + 256 * byte(input[1]))
+}
+
+// Reads the rule's length, and sees whether so many bytes follow.
+pub(crate) fn split(input: &[u8]) -> Halves
+    ensures { λ r. ⌜ r ≡ splitOf (now (input .entry)) ⌝ }
+{
+    if input.len() < 2 {
+        return Halves {
+            fits: false,
+            end: 0,
+        };
+    }
+    let end = rule_end(input);
+    if input.len() < end {
+        return Halves {
+            fits: false,
+            end: 0,
+        };
+    }
+    Halves { fits: true, end }
+}
