@@ -1,31 +1,13 @@
 /* The evaluator from C: sample cases, refusals that leave the buffer, words past the last element, and NULL with
  * length 0. The last line is 'N passed, M failed'. */
 #include "polonezar.h"
+#include "check.h"
 #include <stdio.h>
 #include <stdlib.h>
 #include <string.h>
 
-static int passed, failed;
-
-static void check(int ok, const char *what)
-{
-    if (ok) {
-        passed++;
-    } else {
-        failed++;
-        printf("FAILED: %s\n", what);
-    }
-}
-
 /* Rule A: true; label 20; label 30; 12(0,2); 5(1,3). */
 static const uint8_t rule_a[] = {2, 0, 1, 0, 4, 0, 2, 0, 20, 0, 4, 0, 2, 0, 30, 0, 6, 0, 12, 0, 0, 0, 2, 0, 6, 0, 5, 0, 1, 0, 3, 0};
-
-/* Report R: site 1 with chambers 10 (20, 30) and 10 (20). */
-static const uint8_t report_r[] = {
-    4, 0, 1, 0, 1, 0,
-    4, 0, 1, 0, 10, 0, 4, 0, 1, 0, 20, 0, 2, 0, 2, 0, 4, 0, 1, 0, 30, 0, 2, 0, 2, 0, 2, 0, 2, 0,
-    4, 0, 1, 0, 10, 0, 4, 0, 1, 0, 20, 0, 2, 0, 2, 0, 2, 0, 2, 0,
-    2, 0, 2, 0};
 
 static const uint64_t words_a[] = {1, 1, 27, 13, 1, 3};
 
@@ -78,6 +60,5 @@ int main(void)
     check(answers(pz_evaluate(rule_a, ra, NULL, 0, NULL, 0), 5, 0, 0, 0), "no report, no buffer");
     check(answers(pz_evaluate(rule_a, ra, report_r, rr, NULL, 0), 9, 0, 0, 0), "no buffer");
     check(answers(pz_evaluate(NULL, 0, NULL, 0, NULL, 0), 1, 0, 0, 0), "nothing at all");
-    printf("%d passed, %d failed\n", passed, failed);
-    return failed != 0;
+    return result();
 }

@@ -1,20 +1,9 @@
 /* One pass and the tally from C: case L, refused tags between accepted ones, bad states, NULL with length 0, and the
  * verdicts of a whole report against the evaluator's marks. The last line is 'N passed, M failed'. */
 #include "polonezar.h"
+#include "check.h"
 #include <stdio.h>
 #include <string.h>
-
-static int passed, failed;
-
-static void check(int ok, const char *what)
-{
-    if (ok) {
-        passed++;
-    } else {
-        failed++;
-        printf("FAILED: %s\n", what);
-    }
-}
 
 /* Rule B: label 10; 9(0); 7(1); label 20; 5(3,2). It looks back only. */
 static const uint8_t rule_b[] = {4, 0, 2, 0, 10, 0, 4, 0, 9, 0, 0, 0, 4, 0, 7, 0, 1, 0, 4, 0, 2, 0, 20, 0, 6, 0, 5, 0, 3, 0, 2, 0};
@@ -24,12 +13,6 @@ static const uint8_t rule_ahead[] = {4, 0, 2, 0, 20, 0, 4, 0, 6, 0, 0, 0};
 
 /* Report R as labels, 0 for a closing. */
 static const uint32_t tags[] = {1, 10, 20, 0, 30, 0, 0, 10, 20, 0, 0, 0};
-
-static const uint8_t report_r[] = {
-    4, 0, 1, 0, 1, 0,
-    4, 0, 1, 0, 10, 0, 4, 0, 1, 0, 20, 0, 2, 0, 2, 0, 4, 0, 1, 0, 30, 0, 2, 0, 2, 0, 2, 0, 2, 0,
-    4, 0, 1, 0, 10, 0, 4, 0, 1, 0, 20, 0, 2, 0, 2, 0, 2, 0, 2, 0,
-    2, 0, 2, 0};
 
 static uint8_t state[PZ_STATE_BYTES + 1];
 
@@ -203,6 +186,5 @@ int main(void)
     check(step(r, 1, 0, 0), "close with nothing");
     r = pz_close(rule_b, sizeof rule_b, NULL, 0);
     check(step(r, 11, 0, 0), "close with no state");
-    printf("%d passed, %d failed\n", passed, failed);
-    return failed != 0;
+    return result();
 }

@@ -29,9 +29,9 @@ use Rattle.meaning.specs.Marks.{words, selected, bit, bitAt}
 use Rattle.meaning.proofs.Words.{words-length}
 use Rattle.evaluate.specs.Evaluation.{accepted, refused, judged, meantWords, evaluation, written, Evaluated, Reported, Weighed}
 use Rattle.evaluate.specs.Pass.{Marked}
-use Rattle.evaluate.specs.Table.{tableOf}
+use Rattle.grammar.specs.Columns.{tableOf}
 use Rattle.evaluate.specs.declared.evaluate.Evaluation.{Evaluation}
-use Rattle.evaluate.proofs.TableLaws.{table-of-columns}
+use Rattle.grammar.proofs.Columns.{table-of-columns}
 
 -- ---- a filled column
 

@@ -29,12 +29,12 @@ use Rattle.meaning.proofs.Words.{word-bit, word-lt, words-length, words-at, sel
 use Rattle.evaluate.specs.Links.{leads, Leads, Linked}
 use Rattle.evaluate.specs.Pass.{Stored, Passed, Room, bitsOf, Marked}
 use Rattle.evaluate.specs.Steps.{localMark, backMark, aheadMark, passMark, Nearest}
-use Rattle.evaluate.specs.Table.{tableOf, entryIn}
+use Rattle.grammar.specs.Columns.{tableOf, entryIn}
 use Rattle.evaluate.specs.declared.ahead.Look.{Look}
 use Rattle.evaluate.specs.declared.ahead.Look.the-variants.{Any, Until, Every}
 use Rattle.evaluate.proofs.LinkLaws.{ups-all, lefts-all, parent-next}
 use Rattle.evaluate.proofs.PassLaws.{stored-start, stored-same, passed-same}
-use Rattle.evaluate.proofs.TableLaws.{table-length, table-at}
+use Rattle.grammar.proofs.Columns.{table-length, table-at}
 
 -- ---- the table of passes
 

@@ -1,5 +1,4 @@
 -- Laws that the functions' proofs cite. Read in this order.
-pub mod TableLaws
 pub mod WordLaws
 pub mod PassLaws
 pub mod LinkLaws

@@ -1,7 +1,7 @@
 -- The whole-report evaluator: number, place, elements and selected, and the mark buffer afterwards. Document 01, "Numbers given
 -- back", with its order, and demand 2.
 -- Shuts out: a refusal that writes; 9 before 6; an invented count; a word past the last element written.
--- Laws: proofs/Evaluated.antt. Assumes nothing.
+-- Laws: proofs/Means.antt (what the promise comes to), proofs/Only.antt. Assumes nothing.
 use Prim.Native.Nat.{ℕ}
 use mathlib.Core.Path.{_≡_}
 use mathlib.Core.Bool.{cond}

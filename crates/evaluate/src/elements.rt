@@ -6,7 +6,7 @@ ghost use Rattle.grammar.specs.Legal.{LegalLevels};
 ghost use Rattle.grammar.specs.Rules.{RuleEntries};
 ghost use Rattle.meaning.specs.Marks.{selected};
 ghost use Rattle.evaluate.specs.Pass.{Stored, Marked};
-ghost use Rattle.evaluate.specs.Table.{tableOf};
+ghost use Rattle.grammar.specs.Columns.{tableOf};
 use crate::entry::mark_entries;
 use crate::links::link;
 use crate::word::bit_at;

@@ -8,7 +8,7 @@ ghost use Rattle.meaning.specs.Meaning.{kindOf};
 ghost use Rattle.meaning.specs.Marks.{means, wordOf};
 ghost use Rattle.evaluate.specs.Links.{Linked};
 ghost use Rattle.evaluate.specs.Pass.{Passed, Stored, Room, bitsOf};
-ghost use Rattle.evaluate.specs.Table.{tableOf};
+ghost use Rattle.grammar.specs.Columns.{tableOf};
 use crate::ahead::Look;
 use crate::ahead::ahead_pass;
 use crate::back::back_pass;

@@ -5,7 +5,7 @@ ghost use lib.ListN.{length, take};
 ghost use Rattle.grammar.specs.Legal.{LegalLevels};
 ghost use Rattle.grammar.specs.Rules.{RuleEntries};
 ghost use Rattle.evaluate.specs.Evaluation.{refused, Evaluated, Reported, Weighed};
-ghost use Rattle.evaluate.specs.Table.{tableOf};
+ghost use Rattle.grammar.specs.Columns.{tableOf};
 use crate::elements::mark_elements;
 use records::answer::Answer;
 use records::tables::fill_elements;

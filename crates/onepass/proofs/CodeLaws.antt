@@ -22,10 +22,10 @@ use Rattle.onepass.specs.Bytes.{wordAt}
 use Rattle.onepass.specs.State.{stateSize, depthIn, elementsIn, presenceIn, openPlace, lastPlace, stateOf, bad}
 use Rattle.onepass.specs.Step.{reply, startAnswer, startAfter, openedBytes, closedBytes, looksAhead, callNumber, answerOf, stateAfter}
 use Rattle.onepass.specs.Step.{Started, Answered}
-use Rattle.onepass.specs.Table.{tableOf}
+use Rattle.grammar.specs.Columns.{tableOf}
 use Rattle.onepass.specs.declared.export.StepReply.{StepReply}
 use Rattle.onepass.proofs.ByteLaws.{pred-sub}
-use Rattle.onepass.proofs.TableLaws.{table-filled}
+use Rattle.grammar.proofs.Columns.{table-of-columns}
 use Rattle.onepass.proofs.StateLaws.{good-iff}
 use Rattle.onepass.proofs.CallLaws.{call-taken, opened-is, closed-is, opened-read, opens-room, closes-room}
 
@@ -109,7 +109,7 @@ filled-entries rule a b c r kinds firsts seconds n f e la lb lc =
     let few = rule-small rule .count-in in
     let m : length (entriesOf rule) ≤ 64 = omega (arith, few, entries-count rule) in
     rw (f .kinds-are, f .firsts-are, f .seconds-are, ← count)
-    (table-filled (entriesOf rule) a b c (omega arith) (omega arith) (omega arith))
+    (table-of-columns (entriesOf rule) a b c (omega arith) (omega arith) (omega arith))
 
 -- An accepted rule has 1 to 64 entries.
 pub accepted-range : (rule : List ℕ) (r : Answer) (n : ℕ) → r ≡ ruleAnswer rule → r ≡ Accepted n → (1 ≤ n) × (n ≤ 64)

@@ -1,7 +1,6 @@
 -- The laws of the one-pass engine. Read in this order.
 pub mod ByteLaws
 pub mod BitLaws
-pub mod TableLaws
 pub mod StepLaws
 pub mod StateLaws
 pub mod CallLaws

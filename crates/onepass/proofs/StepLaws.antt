@@ -5,19 +5,35 @@ use native.Mathlib.Numerals.{add-one}
 use native.Mathlib.Omega.{arith}
 use mathlib.Core.Path.{_≡_, refl, sym, subst}
 use mathlib.Core.Bool.{Bool, true, false, not, _||_}
-use mathlib.Core.List.{List}
+use mathlib.Core.List.{List, [], _∷_, _++_}
 use mathlib.Core.Logic.{⊎-elim}
 use lib.Arith.{lt-of-le-ne}
 use lib.ListN.{getD, List·getD-eq-default}
 use Rattle.records.specs.declared.rule.Entry.{Entry}
 use Rattle.records.specs.Kinds.{looksBack}
 use Rattle.grammar.specs.Rules.{noEntry}
+use Rattle.grammar.specs.Columns.{entryIn, tableOf}
+use Rattle.grammar.proofs.Columns.{table-at}
 use Rattle.meaning.specs.Marks.{bit}
 use Rattle.meaning.specs.Meaning.{kinds, kindOf, nothing}
 use Rattle.meaning.specs.OnePass.{stepBit, stepWord}
 use Rattle.onepass.specs.Step.{looksAhead}
-use Rattle.onepass.specs.Table.{entryIn, tableOf}
-use Rattle.onepass.proofs.TableLaws.{table-at, ahead-more}
+
+-- ---- an entry that looks ahead
+
+-- One entry more.
+pub ahead-more : (es : List Entry) (e : Entry) → looksAhead (es ++ (e ∷ [])) ≡ (looksAhead es || not (looksBack (e .kind)))
+unfolding looksAhead
+ahead-more [] e = or-none (not (looksBack (e .kind)))
+  where
+    or-none : (b : Bool) → (b || false) ≡ (false || b)
+    or-none true = refl
+    or-none false = refl
+ahead-more (d ∷ es) e = rw (ahead-more es e) (grouped (not (looksBack (d .kind))) (looksAhead es) (not (looksBack (e .kind))))
+  where
+    grouped : (a b c : Bool) → (a || (b || c)) ≡ ((a || b) || c)
+    grouped true b c = refl
+    grouped false b c = refl
 
 -- ---- the kinds that have no bit
 

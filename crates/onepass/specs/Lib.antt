@@ -1,6 +1,5 @@
 -- What start, open and close promise. Read in this order.
 pub mod Bytes
 pub mod State
-pub mod Table
 pub mod Step
 pub mod Calls

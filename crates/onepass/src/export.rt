@@ -4,7 +4,7 @@ ghost use Prim.Native.Nat.{_≤_};
 ghost use lib.ListN.{length, replicate};
 ghost use Rattle.records.specs.Tags.{opens, closes};
 ghost use Rattle.onepass.specs.State.{stateSize};
-ghost use Rattle.onepass.specs.Table.{tableOf};
+ghost use Rattle.grammar.specs.Columns.{tableOf};
 ghost use Rattle.onepass.specs.Step.{Started, Opened, Closed, Answered, callNumber};
 use crate::bytes::number_at;
 use crate::state::bad_state;

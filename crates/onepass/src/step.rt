@@ -4,7 +4,7 @@ ghost use mathlib.Core.Path.{_≡_};
 ghost use Prim.Native.Nat.{_≤_};
 ghost use Rattle.meaning.specs.Meaning.{kindOf};
 ghost use Rattle.meaning.specs.OnePass.{stepBit, stepWord};
-ghost use Rattle.onepass.specs.Table.{tableOf};
+ghost use Rattle.grammar.specs.Columns.{tableOf};
 ghost use Rattle.onepass.specs.Step.{looksAhead};
 use crate::word::add_bit;
 use crate::word::bit_at;

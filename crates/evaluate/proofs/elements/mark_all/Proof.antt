@@ -1,8 +1,8 @@
 -- `mark_all`: linked, cleared, marked and counted. Assumes nothing.
 use lib.ListN.{length}
-use Rattle.evaluate.specs.Table.{tableOf}
+use Rattle.grammar.specs.Columns.{tableOf}
 use Rattle.evaluate.proofs.PassLaws.{clear-room, stored-after}
-use Rattle.evaluate.proofs.TableLaws.{table-length}
+use Rattle.grammar.proofs.Columns.{table-length}
 use Rattle.evaluate.proofs.KindLaws.{table-few, marked-of}
 use borrow.Author.Needs.{needs}
 use native.Mathlib.Omega.{arith}

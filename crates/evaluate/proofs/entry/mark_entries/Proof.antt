@@ -3,7 +3,7 @@ use Prim.Native.Nat.{ℕ, _+_, _≤_, _<_, _-_}
 use lib.ListN.{length}
 use mathlib.Core.Path.{_≡_}
 use Rattle.evaluate.specs.Pass.{Stored}
-use Rattle.evaluate.specs.Table.{tableOf}
+use Rattle.grammar.specs.Columns.{tableOf}
 use Rattle.evaluate.proofs.KindLaws.{wordUpTo, words-start, words-room, table-few, table-fits, table-turn, table-end}
 use borrow.Author.Needs.{needs}
 use native.Mathlib.Omega.{arith}

@@ -1,6 +1,6 @@
 -- `open_entries` reads the two words, steps over the entries, and stores. Assumes nothing.
 use native.Mathlib.Omega.{arith}
-use Rattle.onepass.proofs.TableLaws.{table-length}
+use Rattle.grammar.proofs.Columns.{table-length}
 use Rattle.onepass.proofs.CallLaws.{refused-is}
 use Rattle.onepass.proofs.CodeLaws.{opens-fine, opened-done}
 use borrow.Author.Needs.{needs}

@@ -4,7 +4,7 @@ use native.Mathlib.Omega.{arith}
 use mathlib.Core.Path.{_≡_, refl}
 use borrow.Author.Needs.{needs}
 use Rattle.onepass.specs.Step.{looksAhead}
-use Rattle.onepass.specs.Table.{tableOf}
+use Rattle.grammar.specs.Columns.{tableOf}
 use Rattle.onepass.proofs.StepLaws.{ahead-next}
 use Rattle.onepass.proofs.step.looks_ahead.Statement.{statement}
 use Rattle.onepass.proofs.step.looks_ahead.Tie as tie

@@ -4,7 +4,7 @@ use native.Mathlib.Omega.{arith}
 use mathlib.Core.Path.{_≡_, refl, _∙_}
 use borrow.Author.Needs.{needs}
 use Rattle.meaning.specs.OnePass.{stepWord}
-use Rattle.onepass.specs.Table.{tableOf}
+use Rattle.grammar.specs.Columns.{tableOf}
 use Rattle.onepass.proofs.StepLaws.{step-small, step-more}
 use Rattle.onepass.proofs.step.step_word.Statement.{statement}
 use Rattle.onepass.proofs.step.step_word.Tie as tie

@@ -1,5 +1,5 @@
--- The tables of a rule: three columns, and the entries that stand in their first places.
--- Laws: proofs/TableLaws.antt. Assumes nothing.
+-- The entries of a rule in three columns, as the readers fill them: which entries stand in their first places.
+-- Laws: proofs/Columns.antt. Assumes nothing.
 use Prim.Native.Nat.{ℕ, zero, suc}
 use mathlib.Core.List.{List, [], _∷_, _++_}
 use lib.ListN.{getD}

@@ -1,4 +1,4 @@
--- The entries in the columns of a table: as many as asked for, and those that were put there.
+-- The entries in three columns: as many as asked for, and those that were put there.
 -- Assumes nothing.
 use Prim.Native.Nat.{ℕ, zero, suc, _≤_, _<_}
 use native.Mathlib.Nat.{eq-or-lt-of-le, le-of-suc-le-suc}
@@ -11,8 +11,8 @@ use lib.Seq.{getD-at, ext-getD}
 use Rattle.records.specs.declared.rule.Entry.{Entry}
 use Rattle.records.specs.Tables.{over, kindOf, aOf, bOf}
 use Rattle.records.proofs.TableLaws.{over-at}
 use Rattle.grammar.specs.Rules.{noEntry}
-use Rattle.evaluate.specs.Table.{entryIn, tableOf}
+use Rattle.grammar.specs.Columns.{entryIn, tableOf}
 
 module _ (kinds firsts seconds : List ℕ) where
   -- There are as many entries as asked for.
