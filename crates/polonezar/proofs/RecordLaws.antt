@@ -1,7 +1,7 @@
 -- The text from the tables is the text of the meaning; and what an accepted evaluation says. Assumes nothing.
 use Prim.Native.Nat.{ℕ, zero, suc, pred, _+_, _-_, _≤_, _<_}
 use native.Mathlib.Omega.{arith}
-use borrow.Author.Tests.{lt-ltb, le-ltb, eq-eqb, ne-eqb}
+use borrow.Author.Tests.{le-ltb}
 use mathlib.Core.Path.{_≡_, refl, sym, ap, subst, _∙_}
 use mathlib.Core.Bool.{Bool, true, false, cond}
 use mathlib.Core.List.{List, [], _∷_, _++_, flatten}
@@ -27,7 +27,7 @@ use Rattle.evaluate.specs.declared.evaluate.Evaluation.{Evaluation}
 use Rattle.evaluate.proofs.Means.{counted, word-is}
 use Rattle.text.specs.Text.{lineOf, elementLines, acceptedLines, acceptedText, elementLine, headerLine, closingLine, refusedLine}
 use Rattle.text.specs.Rendered.{verdictIn, clamped, tableText, putAt, Rendered}
-use Rattle.polonezar.specs.Output.{acceptedRecord, toldAs, judgedRecord, AcceptedWith}
+use Rattle.polonezar.specs.Output.{room, acceptedRecord, toldAs, judgedRecord, AcceptedWith}
 
 -- ---- lines that agree
 
@@ -138,20 +138,16 @@ module _ (rule report marks labels levels labels₁ levels₁ : List ℕ) (eleme
 
 -- ---- accepted or refused
 
-module _ (rule report marks marks₁ out after : List ℕ) (n : ℕ) (r : Evaluation) (e : Evaluated rule report marks r marks₁) (long : length marks ≡ 4096) where
-  told : toldAs rule report r ≡ judgedRecord rule report
-  unfolding judgedRecord
-  told = ap (toldAs rule report) (e .answer ∙ ap (evaluation rule report) long)
-
-  pub judged-accepted : r .number ≡ 0 → Rendered (acceptedRecord rule report) out n after → Rendered (judgedRecord rule report) out n after
-  unfolding toldAs
-  judged-accepted z h =
-      subst (λ (t : List ℕ). Rendered t out n after) (ap (λ (b : Bool). cond b (acceptedRecord rule report) (refusedLine (r .number) (r .place))) (sym (eq-eqb (r .number) 0 z)) ∙ told) h
-
-  pub judged-refused : (r .number ≡ 0 → ⊥) → Rendered (refusedLine (r .number) (r .place)) out n after → Rendered (judgedRecord rule report) out n after
-  unfolding toldAs
-  judged-refused z h =
-      subst (λ (t : List ℕ). Rendered t out n after) (ap (λ (b : Bool). cond b (acceptedRecord rule report) (refusedLine (r .number) (r .place))) (sym (ne-eqb (r .number) 0 z)) ∙ told) h
+-- What the evaluator answered is told, as the record where its number is 0 and as the refusal else.
+pub judged-rendered : (rule report marks marks₁ out after : List ℕ) (n : ℕ) (r : Evaluation) → Evaluated rule report marks r marks₁
+    → length marks ≡ room → (b : Bool) → eqb (r .number) 0 ≡ b
+    → Rendered (cond b (acceptedRecord rule report) (refusedLine (r .number) (r .place))) out n after
+    → Rendered (judgedRecord rule report) out n after
+unfolding judgedRecord toldAs
+judged-rendered rule report marks marks₁ out after n r e long b z h =
+    subst (λ (t : List ℕ). Rendered t out n after)
+    (ap (λ (c : Bool). cond c (acceptedRecord rule report) (refusedLine (r .number) (r .place))) (sym z)
+    ∙ ap (toldAs rule report) (e .answer ∙ ap (evaluation rule report) long)) h
 
 -- ---- the bytes that are written
 

@@ -27,45 +27,30 @@ unfolding splitOf
 split-fits s end e h l =
     rw (le-ltb (length s) 2 h, le-ltb (length s) (ruleEnd s) (omega (arith, e))) (ap split e)
 
--- The rule ends past its length and within the input.
-record Within (s : List ℕ) (end : ℕ) : Type 0 where
-  low : 2 ≤ end
-  high : end ≤ length s
-
-split-room : (s : List ℕ) (w : Halves) → w ≡ splitOf s → w .fits ≡ true → Within s (w .end)
+-- Where the input has its rule, the rule ends past its length and within the input.
+pub split-fine : (s : List ℕ) (w : Halves) → w ≡ splitOf s → w .fits ≡ true → (2 ≤ w .end) × (w .end ≤ length s)
 unfolding splitOf ruleEnd
-split-room s w e f = go (ltb (length s) 2) (ltb (length s) (ruleEnd s)) refl refl e
+split-fine s w e f = go (ltb (length s) 2) (ltb (length s) (ruleEnd s)) refl refl e
   where
-    none : false ≡ true → Within s (w .end)
+    none : false ≡ true → (2 ≤ w .end) × (w .end ≤ length s)
     none q = absurd (let z : _≡_ {A = ℕ} 0 1 = ap (λ (b : Bool). cond b 1 0) q in omega arith)
 
-    go : (a b : Bool) → ltb (length s) 2 ≡ a → ltb (length s) (ruleEnd s) ≡ b
-        → w ≡ cond a unsplit (cond b unsplit (split (ruleEnd s))) → Within s (w .end)
+    go : (a b : Bool) → ltb (length s) 2 ≡ a → ltb (length s) (ruleEnd s) ≡ b → w ≡ cond a unsplit (cond b unsplit (split (ruleEnd s)))
+        → (2 ≤ w .end) × (w .end ≤ length s)
     go true b p q h = none (sym (ap (λ (x : Halves). x .fits) h) ∙ f)
     go false true p q h = none (sym (ap (λ (x : Halves). x .fits) h) ∙ f)
     go false false p q h =
         let k = ap (λ (x : Halves). x .end) h in
-        record { low = omega (arith, k); high = omega (arith, k, ltb-false (length s) (ruleEnd s) q) }
+        (omega (arith, k), omega (arith, k, ltb-false (length s) (ruleEnd s) q))
 
--- Where the input has its rule, the rule ends past its length and within the input.
-pub split-fine : (s : List ℕ) (w : Halves) → w ≡ splitOf s → w .fits ≡ true → (2 ≤ w .end) × (w .end ≤ length s)
-split-fine s w e f = (split-room s w e f .low, split-room s w e f .high)
-
-module _ (s out after : List ℕ) (n : ℕ) (w : Halves) (e : w ≡ splitOf s) where
-  -- The record of an input is that of its halves.
-  pub record-split : w .fits ≡ true → Rendered (judgedRecord (ruleIn s (w .end)) (reportIn s (w .end))) out n after
-      → Rendered (recordOf s) out n after
-  unfolding splitRecord
-  record-split f h =
-      subst (λ (t : List ℕ). Rendered t out n after)
-      (ap (λ (b : Bool). cond b (judgedRecord (ruleIn s (w .end)) (reportIn s (w .end))) (refusedLine 1 0)) (sym f) ∙ ap (splitRecord s) e) h
-
-  -- And refusal 1 where it has none.
-  pub record-unsplit : w .fits ≡ false → Rendered (refusedLine 1 0) out n after → Rendered (recordOf s) out n after
-  unfolding splitRecord
-  record-unsplit f h =
-      subst (λ (t : List ℕ). Rendered t out n after)
-      (ap (λ (b : Bool). cond b (judgedRecord (ruleIn s (w .end)) (reportIn s (w .end))) (refusedLine 1 0)) (sym f) ∙ ap (splitRecord s) e) h
+-- The record of an input is that of its halves where it has its rule, else refusal 1.
+pub record-rendered : (s out after : List ℕ) (n : ℕ) (w : Halves) → w ≡ splitOf s → (b : Bool) → w .fits ≡ b
+    → Rendered (cond b (judgedRecord (ruleIn s (w .end)) (reportIn s (w .end))) (refusedLine 1 0)) out n after
+    → Rendered (recordOf s) out n after
+unfolding splitRecord
+record-rendered s out after n w e b f h =
+    subst (λ (t : List ℕ). Rendered t out n after)
+    (ap (λ (c : Bool). cond c (judgedRecord (ruleIn s (w .end)) (reportIn s (w .end))) (refusedLine 1 0)) (sym f) ∙ ap (splitRecord s) e) h
 
 -- All that follows the rule's end is a slice to the input's end.
 pub halves-rendered : (s out after : List ℕ) (end n : ℕ)

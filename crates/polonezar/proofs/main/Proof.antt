@@ -1,53 +1,38 @@
+-- `main` writes the record and nothing else. Assumes nothing.
 use borrow.Author.Needs.{needs}
 use mathlib.Core.Path.{sym}
 use lib.Seq.{length-take-le}
 use Rattle.polonezar.proofs.RecordLaws.{rendered-room}
 use Rattle.polonezar.proofs.main.Statement.{statement}
 use Rattle.polonezar.proofs.main.Tie as tie
-use Rattle.polonezar.proofs.main.Reads as reads
-use Rattle.polonezar.proofs.main.Lts as lts
-use Rattle.io.proofs.large_buffer.Reads as large-buffer-reads
-use Rattle.io.proofs.read_full.Reads as read-full-reads
-use Rattle.io.proofs.write_all.Reads as write-all-reads
-use Rattle.polonezar.proofs.judge.put_record.Reads as put-record-reads
 
--- src/main.rt:10:21
 large-buffer-requires : tie.Need-large-buffer-requires
 large-buffer-requires c κs = search needs
 
--- src/main.rt:11:30
 slice-aggregate-read-full : tie.Need-slice-aggregate-read-full
 slice-aggregate-read-full c = search needs
 
--- src/main.rt:11:9
 read-full-requires : tie.Need-read-full-requires
 read-full-requires c κs = search needs
 
--- src/main.rt:13:31
 array-share-prefix-input : tie.Need-array-share-prefix-input
 array-share-prefix-input c = search needs
 
--- src/main.rt:13:31
 slice-aggregate-put-record : tie.Need-slice-aggregate-put-record
 slice-aggregate-put-record c = search needs
 
--- src/main.rt:13:9
 put-record-requires : tie.Need-put-record-requires
 put-record-requires c κs = search needs
 
--- src/main.rt:14:22
 array-share-prefix-out : tie.Need-array-share-prefix-out
 array-share-prefix-out c = rendered-room _ _ _ _ (search needs) (c .put-record .ensures)
 
--- src/main.rt:14:22
 slice-aggregate-write-all : tie.Need-slice-aggregate-write-all
 slice-aggregate-write-all c = sym (length-take-le _ _ (rendered-room _ _ _ _ (search needs) (c .before .put-record .ensures)))
 
--- src/main.rt:14:5
 write-all-requires : tie.Need-write-all-requires
 write-all-requires c κs = search needs
 
--- src/main.rt:9:1
 returns : tie.Need-returns
 returns c = search needs
 

@@ -1,48 +1,37 @@
+-- `put_halves` hands the evaluator's answer on: the record where it accepts, the refusal else. Assumes nothing.
+use mathlib.Core.Bool.{true, false}
+use borrow.Author.Tests.{eq-eqb, ne-eqb}
 use borrow.Author.Needs.{needs}
-use Rattle.polonezar.proofs.RecordLaws.{accepted-with, judged-accepted, judged-refused}
+use Rattle.polonezar.proofs.RecordLaws.{accepted-with, judged-rendered}
 use Rattle.polonezar.proofs.judge.put_halves.Statement.{statement}
 use Rattle.polonezar.proofs.judge.put_halves.Tie as tie
-use Rattle.polonezar.proofs.judge.put_halves.Reads as reads
-use Rattle.polonezar.proofs.judge.put_halves.Lts as lts
-use Rattle.evaluate.proofs.evaluate.pz_evaluate.Reads as pz-evaluate-reads
-use Rattle.polonezar.proofs.judge.put_marked.Reads as put-marked-reads
-use Rattle.text.proofs.render.put_refused.Reads as put-refused-reads
 
--- src/judge.rt:38:39
 slice-aggregate-pz-evaluate : tie.Need-slice-aggregate-pz-evaluate
 slice-aggregate-pz-evaluate c = search needs
 
--- src/judge.rt:38:9
 pz-evaluate-requires : tie.Need-pz-evaluate-requires
 pz-evaluate-requires c κs = search needs
 
--- src/judge.rt:40:42
 cast-put-marked : tie.Need-cast-put-marked
 cast-put-marked c = search needs
 
--- src/judge.rt:40:63
 cast-put-marked-2 : tie.Need-cast-put-marked-2
 cast-put-marked-2 c = search needs
 
--- src/judge.rt:40:9
 put-marked-requires : tie.Need-put-marked-requires
 put-marked-requires c κs = accepted-with _ _ _ _ _ (c .before .before .before .before .before .before .before .pz-evaluate .ensures) (search needs)
 
--- src/judge.rt:42:36
 cast-put-refused : tie.Need-cast-put-refused
 cast-put-refused c = search needs
 
--- src/judge.rt:42:9
 put-refused-requires : tie.Need-put-refused-requires
 put-refused-requires c κs = search needs
 
--- src/judge.rt:34:1
 returns : tie.Need-returns
-returns c = judged-accepted _ _ _ _ _ _ _ _ (c .before .before .before .before .before .before .before .before .pz-evaluate .ensures) (search needs) (search needs) (c .put-marked .ensures)
+returns c = judged-rendered _ _ _ _ _ _ _ _ (c .before .before .before .before .before .before .before .before .pz-evaluate .ensures) (search needs) true (eq-eqb (c .before .before .before .before .before .before .before .before .pz-evaluate .result .number) 0 (search needs)) (c .put-marked .ensures)
 
--- src/judge.rt:34:1
 returns-2 : tie.Need-returns-2
-returns-2 c = judged-refused _ _ _ _ _ _ _ _ (c .before .before .before .before .before .before .pz-evaluate .ensures) (search needs) (search needs) (c .put-refused .ensures)
+returns-2 c = judged-rendered _ _ _ _ _ _ _ _ (c .before .before .before .before .before .before .pz-evaluate .ensures) (search needs) false (ne-eqb (c .before .before .before .before .before .before .pz-evaluate .result .number) 0 (search needs)) (c .put-refused .ensures)
 
 pub put-halves-spec : {M : Type 1} → statement M
 put-halves-spec =

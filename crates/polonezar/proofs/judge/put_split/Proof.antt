@@ -1,40 +1,30 @@
+-- `put_split` cuts the input where the rule ends. Assumes nothing.
 use borrow.Author.Needs.{needs}
 use Rattle.polonezar.proofs.SplitLaws.{halves-rendered}
 use Rattle.polonezar.proofs.judge.put_split.Statement.{statement}
 use Rattle.polonezar.proofs.judge.put_split.Tie as tie
-use Rattle.polonezar.proofs.judge.put_split.Reads as reads
-use Rattle.polonezar.proofs.judge.put_split.Lts as lts
-use Rattle.polonezar.proofs.judge.put_halves.Reads as put-halves-reads
 
--- src/judge.rt:52:16
 sub-put-halves : tie.Need-sub-put-halves
 sub-put-halves c = search needs
 
--- src/judge.rt:52:16
 part-put-halves-start : tie.Need-part-put-halves-start
 part-put-halves-start c = search needs
 
--- src/judge.rt:52:16
 part-put-halves-end : tie.Need-part-put-halves-end
 part-put-halves-end c = search needs
 
--- src/judge.rt:52:32
 sub-put-halves-2 : tie.Need-sub-put-halves-2
 sub-put-halves-2 c = search needs
 
--- src/judge.rt:52:32
 part-put-halves-start-2 : tie.Need-part-put-halves-start-2
 part-put-halves-start-2 c = search needs
 
--- src/judge.rt:52:32
 part-put-halves-end-2 : tie.Need-part-put-halves-end-2
 part-put-halves-end-2 c = search needs
 
--- src/judge.rt:52:5
 put-halves-requires : tie.Need-put-halves-requires
 put-halves-requires c κs = search needs
 
--- src/judge.rt:48:1
 returns : tie.Need-returns
 returns c = halves-rendered _ _ _ _ _ (c .put-halves .ensures)
 

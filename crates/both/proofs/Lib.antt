@@ -1,0 +1,2 @@
+-- What holds of the two engines together.
+pub mod Same

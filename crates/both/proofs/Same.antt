@@ -1,0 +1,57 @@
+-- Both engines say the same: feeding an accepted report's tags to one pass gives, at each opening, the last entry's bit of the word
+-- that the evaluator has written for that element. Over the promises of the two, by what both say of the meaning.
+-- Assumes nothing.
+use Prim.Native.Nat.{ℕ, pred, _+_, _<_}
+use native.Mathlib.Omega.{arith}
+use mathlib.Core.Path.{_≡_, refl, sym, ap, _∙_}
+use mathlib.Core.List.{List, [], _∷_, _++_}
+use lib.ListN.{length, getD}
+use Rattle.records.specs.Answer.{countOf}
+use Rattle.records.specs.Report.{reportAnswer, tagsOf as tagsIn}
+use Rattle.records.specs.Rule.{ruleAnswer}
+use Rattle.records.specs.Tables.{entriesOf, labelsOf, levelsOf}
+use Rattle.records.specs.Tags.{Tag, opens, closes, labels, opened}
+use Rattle.records.specs.declared.answer.Answer.the-variants.{Accepted}
+use Rattle.records.proofs.TagLaws.{opened-append}
+use Rattle.grammar.specs.Bytes.{Bytes}
+use Rattle.grammar.proofs.Elements.{labels-accepted, elements-count, levels-elements}
+use Rattle.meaning.specs.Marks.{bit, bitAt}
+use Rattle.meaning.specs.OnePass.{LooksBack}
+use Rattle.evaluate.specs.Evaluation.{Evaluated}
+use Rattle.evaluate.specs.declared.evaluate.Evaluation.{Evaluation}
+use Rattle.evaluate.proofs.Means.{word-is}
+use Rattle.onepass.specs.Step.{Started}
+use Rattle.onepass.specs.Calls.{Call, Calls, tagsOf}
+use Rattle.onepass.specs.declared.export.StepReply.{StepReply}
+use Rattle.onepass.proofs.Agrees.{report-fed}
+
+-- The tags of calls, one call and more calls are those of the parts.
+tags-append : (cs ds : List Call) → tagsOf (cs ++ ds) ≡ tagsOf cs ++ tagsOf ds
+unfolding tagsOf
+tags-append [] ds = refl
+tags-append (c ∷ cs) ds = ap (λ (ts : List Tag). c .tag ∷ ts) (tags-append cs ds)
+
+module _ (rule report : List ℕ) (m n : ℕ) (rule-taken : ruleAnswer rule ≡ Accepted m) (back : LooksBack (entriesOf rule))
+    (bytes : Bytes report) (report-taken : reportAnswer report ≡ Accepted n) where
+  -- An opening among an accepted report's tags is one of its elements.
+  there : (before : List Call) (label : ℕ) (r : StepReply) (later : List Call)
+      → tagsOf (before ++ (record { tag = opens label; answer = r } ∷ later)) ≡ tagsIn report → opened (tagsOf before) < length (levelsOf report)
+  unfolding tagsOf labels
+  there before label r later fed =
+      let all : opened (tagsIn report) ≡ opened (tagsOf before) + opened (opens label ∷ tagsOf later) =
+      ap opened (sym fed ∙ tags-append before (record { tag = opens label; answer = r } ∷ later)) ∙ opened-append (tagsOf before) (opens label ∷ tagsOf later) in
+      let count : length (labelsOf report) ≡ opened (tagsIn report) = ap length (labels-accepted report n report-taken) in
+      omega (arith, all, count, elements-count report, levels-elements report)
+
+  -- The evaluator has accepted rule and report and left `after`; one pass was started and fed all the report's tags. Then each opening
+  -- is answered 0, with the last entry's bit of that element's word in `after`.
+  pub engines-agree : (marks after : List ℕ) (e : Evaluation) → Evaluated rule report marks e after → e .number ≡ 0
+      → (given start end : List ℕ) (r₀ : StepReply) → Started given r₀ start → r₀ .number ≡ 0
+      → (before : List Call) (label : ℕ) (r : StepReply) (later : List Call)
+      → Calls rule start (before ++ (record { tag = opens label; answer = r } ∷ later)) end
+      → tagsOf (before ++ (record { tag = opens label; answer = r } ∷ later)) ≡ tagsIn report
+      → (r .number ≡ 0) × (r .verdict ≡ bit (bitAt (getD after (opened (tagsOf before)) 0) (pred (length (entriesOf rule)))))
+  engines-agree marks after e evaluated zero given start end r₀ started begun before label r later calls fed =
+      let q = report-fed rule m rule-taken back given start r₀ started begun report n bytes report-taken
+      (before ++ (record { tag = opens label; answer = r } ∷ later)) end calls fed before label r later refl in
+      (q .0, q .1 ∙ rw (word-is rule report marks e after evaluated zero (opened (tagsOf before)) (there before label r later fed)))
