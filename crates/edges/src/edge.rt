@@ -10,15 +10,17 @@ use crate::print::put_unread;
 use crate::search::find;
 use crate::search::same;
 use crate::spell::spell;
+use crate::told::put_told;
 use crate::whole::put_evaluated;
 use records::export::pz_read_report;
 use records::export::pz_read_rule;
 
-// What a line asks for: a reader, or the evaluator.
+// What a line asks for: a reader, the evaluator, or the program's record.
 pub enum Form {
     Rule,
     Report,
     Evaluate,
+    Program,
     Neither,
 }
 
@@ -39,6 +41,9 @@ fn form_of(word: &[u8]) -> Form {
     }
     if same(word, b"evaluate") {
         return Form::Evaluate;
+    }
+    if same(word, b"program") {
+        return Form::Program;
     }
     Form::Neither
 }
@@ -116,6 +121,7 @@ fn put_case(
         Form::Rule => put_asked(true, &line[first + 1..hash], bytes, out, at),
         Form::Report => put_asked(false, &line[first + 1..hash], bytes, out, at),
         Form::Evaluate => put_evaluated(&line[first + 1..hash], rule, bytes, marks, out, at),
+        Form::Program => put_told(&line[first + 1..hash], bytes, out, at),
         Form::Neither => put_unread(out, at),
     }
 }

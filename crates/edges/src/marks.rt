@@ -21,7 +21,7 @@ fn put_words(marks: &[u64], out: &mut [u8], at: usize) -> usize
 }
 
 // A digest with one word more.
-fn with_word(sum: u64, word: u64) -> u64
+pub(crate) fn with_word(sum: u64, word: u64) -> u64
     requires { ⌜ sum < 4294967291 ⌝ }
     ensures { λ r. ⌜ r < 4294967291 ⌝ }
 {

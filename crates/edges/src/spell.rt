@@ -11,6 +11,13 @@ pub struct Spelt {
     pub size: usize,
 }
 
+// Room for what the words of a line spell: for more than the 65,536 bytes that the program reads.
+pub(crate) fn input_buffer() -> [u8; 81920]
+    ensures { λ r. ⌜ 81920 ≡ length r ⌝ }
+{
+    [0; 81920]
+}
+
 fn byte(x: u8) -> usize
     ensures { λ r. ⌜ (r ≡ x) × (r < 256) ⌝ }
 {

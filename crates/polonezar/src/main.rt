@@ -1,15 +1,15 @@
 // The program: a rule and a report on standard input, the record on standard output.
 //
 // The input is a rule's length in two bytes, low byte first, the rule, and the report to the end;
-// at most 65,536 bytes are read. What is printed is a proved function of these bytes
-// (`specs/Output.antt`); `main` only moves them.
-mod judge;
-mod split;
-
+// at most 65,536 bytes are read. What is printed is a proved function of these bytes (`put_record`
+// of the crate judge); `main` only moves them. A program of this language has no exit status, so a
+// record that could not be written whole is said on standard error.
 fn main() {
     let mut input = io::large_buffer();
     let n = io::read_full(0, &mut input);
     let mut out = [0u8; 81920];
-    let m = judge::put_record(&input[..n], &mut out);
-    io::write_all(1, &out[..m]);
+    let m = judge::judge::put_record(&input[..n], &mut out);
+    if !io::write_all(1, &out[..m]) {
+        io::write_all(2, b"polonezar: the record was not written whole; nothing may be decided by it\n");
+    }
 }

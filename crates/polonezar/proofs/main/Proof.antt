@@ -1,8 +1,8 @@
--- `main` writes the record and nothing else. Assumes nothing.
+-- `main` lends only what it has, and writes no more of the buffer than the record. Assumes nothing.
 use borrow.Author.Needs.{needs}
 use mathlib.Core.Path.{sym}
 use lib.Seq.{length-take-le}
-use Rattle.polonezar.proofs.RecordLaws.{rendered-room}
+use Rattle.judge.proofs.RecordLaws.{rendered-room}
 use Rattle.polonezar.proofs.main.Statement.{statement}
 use Rattle.polonezar.proofs.main.Tie as tie
 
@@ -33,8 +33,17 @@ slice-aggregate-write-all c = sym (length-take-le _ _ (rendered-room _ _ _ _ (se
 write-all-requires : tie.Need-write-all-requires
 write-all-requires c κs = search needs
 
+slice-aggregate-write-all-2 : tie.Need-slice-aggregate-write-all-2
+slice-aggregate-write-all-2 c = search needs
+
+write-all-requires-2 : tie.Need-write-all-requires-2
+write-all-requires-2 c κs = search needs
+
 returns : tie.Need-returns
 returns c = search needs
+
+returns-2 : tie.Need-returns-2
+returns-2 c = search needs
 
 pub main-spec : {M : Type 1} → statement M
 main-spec =
@@ -49,4 +58,7 @@ main-spec =
     array-share-prefix-out
     slice-aggregate-write-all
     write-all-requires
-    returns)
+    slice-aggregate-write-all-2
+    write-all-requires-2
+    returns
+    returns-2)

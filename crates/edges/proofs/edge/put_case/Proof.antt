@@ -89,6 +89,24 @@ put-evaluated-requires c κs = search needs
 enum-told-4 : tie.Need-enum-told-4
 enum-told-4 c = search needs
 
+add-put-told : tie.Need-add-put-told
+add-put-told c = search needs
+
+sub-put-told : tie.Need-sub-put-told
+sub-put-told c = search needs
+
+part-put-told-start : tie.Need-part-put-told-start
+part-put-told-start c = search needs
+
+part-put-told-end : tie.Need-part-put-told-end
+part-put-told-end c = search needs
+
+put-told-requires : tie.Need-put-told-requires
+put-told-requires c κs = search needs
+
+enum-told-5 : tie.Need-enum-told-5
+enum-told-5 c = search needs
+
 put-unread-requires-3 : tie.Need-put-unread-requires-3
 put-unread-requires-3 c κs = search needs
 
@@ -128,8 +146,17 @@ returns-5 c = search needs
 same-length-11 : tie.Need-same-length-11
 same-length-11 c = search needs
 
+same-length-12 : tie.Need-same-length-12
+same-length-12 c = search needs
+
 returns-6 : tie.Need-returns-6
 returns-6 c = search needs
+
+same-length-13 : tie.Need-same-length-13
+same-length-13 c = search needs
+
+returns-7 : tie.Need-returns-7
+returns-7 c = search needs
 
 pub put-case-spec : {M : Type 1} → statement M
 put-case-spec =
@@ -163,6 +190,12 @@ put-case-spec =
     part-put-evaluated-end
     put-evaluated-requires
     enum-told-4
+    add-put-told
+    sub-put-told
+    part-put-told-start
+    part-put-told-end
+    put-told-requires
+    enum-told-5
     put-unread-requires-3
     same-length-3
     same-length-4
@@ -176,4 +209,7 @@ put-case-spec =
     same-length-10
     returns-5
     same-length-11
-    returns-6)
+    same-length-12
+    returns-6
+    same-length-13
+    returns-7)

@@ -14,8 +14,8 @@ use Rattle.meaning.specs.Marks.{wordOf, verdict, selected}
 use Rattle.evaluate.specs.Evaluation.{evaluation, meantWords}
 use Rattle.evaluate.specs.declared.evaluate.Evaluation.{Evaluation}
 use Rattle.text.specs.Text.{refusedLine, acceptedText}
-use Rattle.polonezar.specs.Input.{splitOf, ruleIn, reportIn}
-use Rattle.polonezar.specs.declared.split.Halves.{Halves}
+use Rattle.judge.specs.Input.{splitOf, ruleIn, reportIn}
+use Rattle.judge.specs.declared.split.Halves.{Halves}
 
 -- How many elements the program has room for: as many as a report may have, so that 9 is never printed.
 abbrev pub room : ℕ

@@ -1,8 +1,8 @@
 -- `put_marked` tells the tables of an accepted report, which are the meaning's. Assumes nothing.
 use borrow.Author.Needs.{needs}
-use Rattle.polonezar.proofs.RecordLaws.{entries-known, last-known, accepted-rendered}
-use Rattle.polonezar.proofs.judge.put_marked.Statement.{statement}
-use Rattle.polonezar.proofs.judge.put_marked.Tie as tie
+use Rattle.judge.proofs.RecordLaws.{entries-known, last-known, accepted-rendered}
+use Rattle.judge.proofs.judge.put_marked.Statement.{statement}
+use Rattle.judge.proofs.judge.put_marked.Tie as tie
 
 fill-elements-requires : tie.Need-fill-elements-requires
 fill-elements-requires c κs = search needs

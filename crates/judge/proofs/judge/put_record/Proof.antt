@@ -1,9 +1,9 @@
 -- `put_record` tells the record of the halves, or refusal 1. Assumes nothing.
 use mathlib.Core.Bool.{true, false}
 use borrow.Author.Needs.{needs}
-use Rattle.polonezar.proofs.SplitLaws.{split-fine, record-rendered}
-use Rattle.polonezar.proofs.judge.put_record.Statement.{statement}
-use Rattle.polonezar.proofs.judge.put_record.Tie as tie
+use Rattle.judge.proofs.SplitLaws.{split-fine, record-rendered}
+use Rattle.judge.proofs.judge.put_record.Statement.{statement}
+use Rattle.judge.proofs.judge.put_record.Tie as tie
 
 split-requires : tie.Need-split-requires
 split-requires c κs = search needs

@@ -10,9 +10,9 @@ use lib.ListN.{length, take, drop, length-drop}
 use lib.Seq.{take-all}
 use Rattle.text.specs.Text.{refusedLine}
 use Rattle.text.specs.Rendered.{Rendered}
-use Rattle.polonezar.specs.Input.{ruleIn, reportIn, ruleEnd, unsplit, split, splitOf}
-use Rattle.polonezar.specs.Output.{judgedRecord, splitRecord, recordOf}
-use Rattle.polonezar.specs.declared.split.Halves.{Halves}
+use Rattle.judge.specs.Input.{ruleIn, reportIn, ruleEnd, unsplit, split, splitOf}
+use Rattle.judge.specs.Output.{judgedRecord, splitRecord, recordOf}
+use Rattle.judge.specs.declared.split.Halves.{Halves}
 
 pub split-short : (s : List ℕ) → length s < 2 → unsplit ≡ splitOf s
 unfolding splitOf

@@ -1,8 +1,8 @@
 -- `split` tests both clauses of refusal 1. Assumes nothing.
 use borrow.Author.Needs.{needs}
-use Rattle.polonezar.proofs.SplitLaws.{split-short, split-long, split-fits}
-use Rattle.polonezar.proofs.split.split.Statement.{statement}
-use Rattle.polonezar.proofs.split.split.Tie as tie
+use Rattle.judge.proofs.SplitLaws.{split-short, split-long, split-fits}
+use Rattle.judge.proofs.split.split.Statement.{statement}
+use Rattle.judge.proofs.split.split.Tie as tie
 
 returns : tie.Need-returns
 returns c = split-short _ (search needs)

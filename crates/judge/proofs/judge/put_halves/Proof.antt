@@ -2,9 +2,9 @@
 use mathlib.Core.Bool.{true, false}
 use borrow.Author.Tests.{eq-eqb, ne-eqb}
 use borrow.Author.Needs.{needs}
-use Rattle.polonezar.proofs.RecordLaws.{accepted-with, judged-rendered}
-use Rattle.polonezar.proofs.judge.put_halves.Statement.{statement}
-use Rattle.polonezar.proofs.judge.put_halves.Tie as tie
+use Rattle.judge.proofs.RecordLaws.{accepted-with, judged-rendered}
+use Rattle.judge.proofs.judge.put_halves.Statement.{statement}
+use Rattle.judge.proofs.judge.put_halves.Tie as tie
 
 slice-aggregate-pz-evaluate : tie.Need-slice-aggregate-pz-evaluate
 slice-aggregate-pz-evaluate c = search needs

@@ -1,8 +1,8 @@
 -- `put_split` cuts the input where the rule ends. Assumes nothing.
 use borrow.Author.Needs.{needs}
-use Rattle.polonezar.proofs.SplitLaws.{halves-rendered}
-use Rattle.polonezar.proofs.judge.put_split.Statement.{statement}
-use Rattle.polonezar.proofs.judge.put_split.Tie as tie
+use Rattle.judge.proofs.SplitLaws.{halves-rendered}
+use Rattle.judge.proofs.judge.put_split.Statement.{statement}
+use Rattle.judge.proofs.judge.put_split.Tie as tie
 
 sub-put-halves : tie.Need-sub-put-halves
 sub-put-halves c = search needs

@@ -1,9 +1,9 @@
 -- `rule_end` reads the two bytes of the length. Assumes nothing.
 use borrow.Author.Needs.{needs}
 use Rattle.records.specs.Bytes.{numberAt}
-use Rattle.polonezar.specs.Input.{ruleEnd}
-use Rattle.polonezar.proofs.split.rule_end.Statement.{statement}
-use Rattle.polonezar.proofs.split.rule_end.Tie as tie
+use Rattle.judge.specs.Input.{ruleEnd}
+use Rattle.judge.proofs.split.rule_end.Statement.{statement}
+use Rattle.judge.proofs.split.rule_end.Tie as tie
 
 shared-slice-read-byte : tie.Need-shared-slice-read-byte
 shared-slice-read-byte c = search needs

@@ -7,7 +7,7 @@ use mathlib.Core.List.{List}
 use lib.Dec.{ltb}
 use lib.ListN.{length, take, drop}
 use Rattle.records.specs.Bytes.{numberAt}
-use Rattle.polonezar.specs.declared.split.Halves.{Halves}
+use Rattle.judge.specs.declared.split.Halves.{Halves}
 
 -- Where the rule ends: past the two bytes of its length, and so many bytes more.
 unfoldable pub ruleEnd : List ℕ → ℕ

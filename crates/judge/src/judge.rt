@@ -3,8 +3,8 @@ ghost use mathlib.Core.Path.{_≡_};
 ghost use Prim.Native.Nat.{_≤_};
 ghost use lib.ListN.{length};
 ghost use Rattle.text.specs.Rendered.{Rendered};
-ghost use Rattle.polonezar.specs.Input.{ruleIn, reportIn};
-ghost use Rattle.polonezar.specs.Output.{AcceptedWith, acceptedRecord, judgedRecord, recordOf};
+ghost use Rattle.judge.specs.Input.{ruleIn, reportIn};
+ghost use Rattle.judge.specs.Output.{AcceptedWith, acceptedRecord, judgedRecord, recordOf};
 use crate::split::split;
 use evaluate::evaluate::pz_evaluate;
 use records::export::pz_read_rule;
@@ -60,7 +60,7 @@ fn put_split(input: &[u8], end: usize, out: &mut [u8; 81920]) -> usize
 }
 
 // Puts the record of an input.
-pub(crate) fn put_record(input: &[u8], out: &mut [u8; 81920]) -> usize
+pub fn put_record(input: &[u8], out: &mut [u8; 81920]) -> usize
     ensures { λ r. ⌜ Rendered (recordOf (now (input .entry))) (now (out .entry)) r (now (out .exit)) ⌝ }
 {
     let s = split(input);

@@ -2,7 +2,7 @@
 ghost use mathlib.Core.Path.{_≡_};
 ghost use Prim.Native.Nat.{_<_};
 ghost use lib.ListN.{length};
-ghost use Rattle.polonezar.specs.Input.{ruleEnd, splitOf};
+ghost use Rattle.judge.specs.Input.{ruleEnd, splitOf};
 
 // Whether the input has a rule of the length that it says, and where that rule ends.
 pub struct Halves {

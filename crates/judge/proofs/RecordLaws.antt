@@ -27,7 +27,7 @@ use Rattle.evaluate.specs.declared.evaluate.Evaluation.{Evaluation}
 use Rattle.evaluate.proofs.Means.{counted, word-is}
 use Rattle.text.specs.Text.{lineOf, elementLines, acceptedLines, acceptedText, elementLine, headerLine, closingLine, refusedLine}
 use Rattle.text.specs.Rendered.{verdictIn, clamped, tableText, putAt, Rendered}
-use Rattle.polonezar.specs.Output.{room, acceptedRecord, toldAs, judgedRecord, AcceptedWith}
+use Rattle.judge.specs.Output.{room, acceptedRecord, toldAs, judgedRecord, AcceptedWith}
 
 -- ---- lines that agree
 

@@ -1,3 +1,0 @@
--- Proofs of the program.
-pub mod SplitLaws
-pub mod RecordLaws
