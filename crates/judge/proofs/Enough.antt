@@ -1,0 +1,121 @@
+-- The program reads at most 65,536 bytes, and that changes no record: what stands behind them plays no part. Where the rule is
+-- longer than a rule may be, 1 is told however much follows; where it is not, the report is too long with the rest and without it.
+-- Assumes nothing.
+use Prim.Native.Nat.{ℕ, _+_, _*_, _-_, _≤_, _<_}
+use native.Mathlib.Omega.{arith}
+use native.Mathlib.Decide.{decLt}
+use borrow.Author.Tests.{ne-eqb}
+use mathlib.Core.Path.{_≡_, refl, sym, ap, _∙_}
+use mathlib.Core.Bool.{Bool}
+use mathlib.Core.List.{List, _++_}
+use mathlib.Core.Logic.{⊎-elim, inr}
+use lib.ListN.{length, getD, take, drop, length-drop, length-append, List·getD-append}
+use lib.Seq.{length-take-le, take-append-le, drop-append-le}
+use Rattle.records.specs.Bytes.{numberAt}
+use Rattle.records.specs.Rule.{ruleAnswer}
+use Rattle.records.specs.Report.{reportAnswer}
+use Rattle.records.specs.Tables.{entriesOf}
+use Rattle.records.specs.declared.answer.Answer.{Answer}
+use Rattle.records.specs.declared.answer.Answer.the-variants.{Accepted, Refused}
+use Rattle.grammar.proofs.WhenRule.{rule-1-iff, rule-numbers}
+use Rattle.grammar.proofs.WhenReport.{report-5-iff}
+use Rattle.meaning.specs.Marks.{selected}
+use Rattle.evaluate.specs.Evaluation.{refused, judged, evaluation, meantWords}
+use Rattle.text.specs.Text.{refusedLine}
+use Rattle.judge.specs.Input.{ruleEnd, ruleIn, reportIn}
+use Rattle.judge.specs.Output.{room, toldAs, judgedRecord, splitRecord, recordOf}
+use Rattle.judge.proofs.SplitLaws.{split-long, split-fits}
+
+-- ---- what a refusal is told as
+
+module _ (rule report : List ℕ) where
+  refused-told : (k p : ℕ) → 1 ≤ k → toldAs rule report (refused k p) ≡ refusedLine k p
+  unfolding toldAs
+  refused-told k p h = rw (ne-eqb k 0 (λ e. omega arith))
+
+  -- A refused rule is told by its own number and place, whatever the report is.
+  pub rule-refused-told : (k p : ℕ) → ruleAnswer rule ≡ Refused k p → judgedRecord rule report ≡ refusedLine k p
+  unfolding judgedRecord evaluation judged
+  rule-refused-told k p e =
+      ap (λ (a : Answer). toldAs rule report (judged a (reportAnswer report) room (selected (length (entriesOf rule)) (meantWords rule report)))) e
+      ∙ refused-told k p
+      (⊎-elim (λ t. omega arith) (⊎-elim (λ t. omega arith) (⊎-elim (λ t. omega arith) (λ t. omega arith))) (rule-numbers rule k p e))
+
+  -- A report that is too long is told so, where the rule is accepted.
+  pub report-long-told : (m : ℕ) → ruleAnswer rule ≡ Accepted m → 40960 < length report → judgedRecord rule report ≡ refusedLine 5 0
+  unfolding judgedRecord evaluation judged
+  report-long-told m e h =
+      let count = selected (length (entriesOf rule)) (meantWords rule report) in
+      ap (λ (a : Answer). toldAs rule report (judged a (reportAnswer report) room count)) e
+      ∙ ap (λ (b : Answer). toldAs rule report (judged (Accepted m) b room count)) (report-5-iff report 0 .1 (refl, inr h))
+      ∙ refused-told 5 0 (omega arith)
+
+  -- A rule that is too long is told so, whatever it is.
+  pub rule-long-told : 512 < length rule → judgedRecord rule report ≡ refusedLine 1 0
+  rule-long-told h = rule-refused-told 1 0 (rule-1-iff rule 0 .1 (refl, inr h))
+
+-- With one rule, two reports that are too long have the same record.
+pub long-reports-same : (rule report report′ : List ℕ) → 40960 < length report → 40960 < length report′
+    → judgedRecord rule report ≡ judgedRecord rule report′
+long-reports-same rule report report′ h h′ = go (ruleAnswer rule) refl
+  where
+    go : (a : Answer) → ruleAnswer rule ≡ a → judgedRecord rule report ≡ judgedRecord rule report′
+    go (Accepted m) e = report-long-told rule report m e h ∙ sym (report-long-told rule report′ m e h′)
+    go (Refused k p) e = rule-refused-told rule report k p e ∙ sym (rule-refused-told rule report′ k p e)
+
+-- ---- the record by the rule's end
+
+module _ (s : List ℕ) (h : 2 ≤ length s) where
+  -- Where the rule ends within the input, the record is that of rule and report.
+  pub record-split : ruleEnd s ≤ length s → recordOf s ≡ judgedRecord (ruleIn s (ruleEnd s)) (reportIn s (ruleEnd s))
+  unfolding splitRecord
+  record-split l = ap (splitRecord s) (sym (split-fits s (ruleEnd s) refl h l))
+
+  -- A rule of more than 512 bytes is told as 1, whether the input has all of it or not.
+  pub record-long-rule : 514 < ruleEnd s → recordOf s ≡ refusedLine 1 0
+  unfolding splitRecord ruleIn
+  record-long-rule m =
+      elim (decLt (length s) (ruleEnd s)) [
+        | yes l ↦ ap (splitRecord s) (sym (split-long s (ruleEnd s) refl h l))
+        | no n ↦ record-split (omega (arith, n))
+            ∙ rule-long-told (ruleIn s (ruleEnd s)) (reportIn s (ruleEnd s))
+            (rw (length-take-le (ruleEnd s - 2) (drop 2 s) (rw (length-drop 2 s) (omega (arith, n)))) (omega arith))
+      ]
+
+-- ---- what stands behind the bytes that are read
+
+-- The record of the first 65,536 bytes is the record of the whole input.
+pub read-enough : (s rest : List ℕ) → length s ≡ 65536 → recordOf s ≡ recordOf (s ++ rest)
+unfolding ruleEnd numberAt ruleIn reportIn
+read-enough s rest n =
+    elim (decLt 514 (ruleEnd s)) [
+      | yes l ↦ record-long-rule s (omega arith) l ∙ sym (record-long-rule (s ++ rest) two (omega (arith, ends)))
+      | no k ↦ record-split s (omega arith) (omega (arith, k)) ∙ same (omega (arith, k)) ∙ sym (record-split (s ++ rest) two (omega (arith, k, ends, size)))
+    ]
+  where
+    size : length (s ++ rest) ≡ length s + length rest
+    size = length-append s rest
+
+    two : 2 ≤ length (s ++ rest)
+    two = omega (arith, size)
+
+    ends : ruleEnd (s ++ rest) ≡ ruleEnd s
+    ends =
+        ap (λ (x : ℕ). 2 + (x + 256 * getD (s ++ rest) 1 0)) (List·getD-append s rest 0 0 (omega arith))
+        ∙ ap (λ (x : ℕ). 2 + (getD s 0 0 + 256 * x)) (List·getD-append s rest 0 1 (omega arith))
+
+    rules : ruleEnd s ≤ 514 → ruleIn (s ++ rest) (ruleEnd s) ≡ ruleIn s (ruleEnd s)
+    rules k =
+        ap (take (ruleEnd s - 2)) (drop-append-le 2 s rest (omega arith))
+        ∙ take-append-le (ruleEnd s - 2) (drop 2 s) rest (rw (length-drop 2 s) (omega arith))
+
+    long : (l : List ℕ) → 65536 ≤ length l → ruleEnd s ≤ 514 → 40960 < length (reportIn l (ruleEnd s))
+    long l h k = rw (length-drop (ruleEnd s) l) (omega arith)
+
+    same : ruleEnd s ≤ 514 → judgedRecord (ruleIn s (ruleEnd s)) (reportIn s (ruleEnd s))
+        ≡ judgedRecord (ruleIn (s ++ rest) (ruleEnd (s ++ rest))) (reportIn (s ++ rest) (ruleEnd (s ++ rest)))
+    same k =
+        long-reports-same (ruleIn s (ruleEnd s)) (reportIn s (ruleEnd s)) (reportIn (s ++ rest) (ruleEnd s)) (long s (omega arith) k)
+        (long (s ++ rest) (omega (arith, size)) k)
+        ∙ ap (λ (r : List ℕ). judgedRecord r (reportIn (s ++ rest) (ruleEnd s))) (sym (rules k))
+        ∙ ap (λ (e : ℕ). judgedRecord (ruleIn (s ++ rest) e) (reportIn (s ++ rest) e)) (sym ends)
