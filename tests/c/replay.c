@@ -9,6 +9,7 @@
  */
 #define _DEFAULT_SOURCE
 #include "polonezar.h"
+#include <signal.h>
 #include <stdarg.h>
 #include <stdio.h>
 #include <stdlib.h>
@@ -218,9 +219,20 @@ static int same(const char *what, enum place place, const uint8_t *found, const 
     return 0;
 }
 
+static enum place place_in_hand;
+
+/* A guard page was touched, by the function: this program keeps to what it lends. Nothing can go on from there. */
+static void touched(int number)
+{
+    (void)number;
+    fail("call %lu, %s, %s: memory beside what was lent was touched", calls, names[function], place_names[place_in_hand]);
+    exit(result());
+}
+
 static void replay(enum place place, uint8_t *const guarded[3])
 {
     uint32_t reply[4];
+    place_in_hand = place;
     uint8_t *lent_rule = lend(place, guarded[0], &rule);
     uint8_t *lent_report = lend(place, guarded[1], &report);
     uint8_t *buffer = lend(place, guarded[2], &before);
@@ -255,6 +267,7 @@ int main(int argc, char **argv)
         perror(file_name);
         return 2;
     }
+    signal(SIGSEGV, touched);
     get(head, sizeof head);
     if (memcmp(head, "pzkept 1", sizeof head) != 0)
         broken("this is no file of kept calls");
