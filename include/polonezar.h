@@ -45,6 +45,7 @@
  *   "b is reached from s through a": going step by step (to a child, to the parent, to the next or to
  *   the previous sibling) one can come to an element where b holds, so that a holds at every element
  *   before it on the way, s included. The way may have no step: where b holds at s, a is not asked.
+ *   pz_evaluate takes every rule; pz_open and pz_close take those whose entries all look back.
  *
  * What a caller owes, and nothing checks: each pointer is valid for as many bytes (words, for marks)
  * as its length says, marks is aligned for uint64_t, lent buffers do not overlap, and nobody else
@@ -182,7 +183,7 @@ struct pz_evaluation pz_evaluate(const uint8_t *rule, size_t rule_len,
  * A state may be copied, saved and brought back at any time between two calls, also by another process:
  * it has no pointers. The rule is not in it, and its words are that rule's marks: save the rule's bytes
  * beside the state and bring the same rule to every call from pz_start on. Another rule, or damage to
- * the words, is not noticed, and the verdicts then mean nothing. */
+ * presence or to a word, is not noticed, and the verdicts then mean nothing. */
 enum pz_state {
     PZ_STATE_BYTES = 1040,
     PZ_STATE_DEPTH = 0,
@@ -209,8 +210,9 @@ struct pz_step pz_start(uint8_t *state, size_t state_len);
 /* Opens an element. Lent for this call: rule, rule_len bytes, only read; state, state_len bytes, read
  * and written. Nothing is kept.
  * Gives: number 0 and the verdict; else the number, place for 2, 3 and 4, verdict 0, and the state as it
- * was. After pz_start and with the same rule throughout, the verdict is the one that pz_evaluate's marks
- * give this element in every report that begins with the tags accepted so far, refused ones left out.
+ * was. After pz_start and with the same rule throughout, the verdict is the last entry's bit that
+ * pz_evaluate gives this element in every report that begins with the tags accepted so far; calls that
+ * were refused count for nothing.
  * Order: what pz_read_rule gives for the rule, then 10, 11, 6 (the label is not one of 1 to 999), 7 (the
  * root is closed), 8 (64 elements are open, or 4,096 have been opened).
  * Promise: Opened (crates/onepass/specs/Step.antt). */
