@@ -7,8 +7,8 @@
  * pz_tally counts verdicts.
  *
  * Libraries, for x86-64 Linux. libpolonezar.a has every function: link with -lpolonezar.
- * libpolonezar-readers.a has pz_read_rule and pz_read_report alone: link with -lpolonezar-readers. Of
- * the C library they need memset at most.
+ * libpolonezar-readers.a has pz_read_rule and pz_read_report alone: link with -lpolonezar-readers. From
+ * the C library they take memcpy, memmove, memset and memcmp at most.
  *
  * What each function answers and leaves in lent memory is proved of its code for every input: nothing
  * has to be checked before a call. "Promise:" names the definition in Polonezar's source that says

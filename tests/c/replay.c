@@ -187,7 +187,8 @@ static void call(uint32_t reply[4], const uint8_t *lent_rule, const uint8_t *len
         reply[0] = b.number, reply[1] = b.place, reply[2] = b.elements;
         return;
     case 3:
-        e = pz_evaluate(lent_rule, rule.length, lent_report, report.length, (uint64_t *)(void *)buffer, before.length / 8);
+        e = pz_evaluate(lent_rule, rule.length, lent_report, report.length, (uint64_t *)(void *)buffer,
+                        before.length / 8);
         reply[0] = e.number, reply[1] = e.place, reply[2] = e.elements, reply[3] = e.selected;
         return;
     case 4:
@@ -225,7 +226,8 @@ static enum place place_in_hand;
 static void touched(int number)
 {
     (void)number;
-    fail("call %lu, %s, %s: memory beside what was lent was touched", calls, names[function], place_names[place_in_hand]);
+    fail("call %lu, %s, %s: memory beside what was lent was touched", calls, names[function],
+         place_names[place_in_hand]);
     exit(result());
 }
 

@@ -62,7 +62,8 @@ impl Run {
         }
     }
 
-    /// Ends the kept file and prints the table of counts; a cause that never occurred by itself is a failure. Gives whether all is well.
+    /// Ends the kept file and prints the table of counts; a cause that never occurred by itself is a failure. Gives
+    /// whether all is well.
     pub fn end(mut self, calls: &[Call]) -> bool {
         if let Some(keeper) = self.keeper.take() {
             keeper.end().unwrap_or_else(|error| panic!("the calls cannot be kept: {error}"));
