@@ -1,12 +1,18 @@
 /* polonezar.h: Polonezar for C and C++.
  *
- * A rule and a report are byte strings. The readers, pz_read_rule and pz_read_report, say whether one
- * is accepted, and if not, why and where; they are in the library of the crate records, which ships
- * alone. pz_evaluate, in the library of the crate evaluate, marks the elements of a report at which
- * each entry of a rule holds. pz_start, pz_open and pz_close, in the library of the crate onepass, give
- * the verdict of a rule that looks back only at the moment an element opens. pz_tally, in the library
- * of the crate tally, counts verdicts. What each function answers and leaves in lent memory is proved
- * of its code for every input: nothing has to be checked before a call.
+ * A report is a tree of labelled elements, a rule is a formula that picks elements out; both are byte
+ * strings. pz_read_rule and pz_read_report say whether one is accepted, and if not, why and where.
+ * pz_evaluate marks the elements of a whole report at which each entry of a rule holds. pz_start,
+ * pz_open and pz_close give the verdict of a rule that looks back only, at the moment an element opens.
+ * pz_tally counts verdicts.
+ *
+ * Libraries, for x86-64 Linux. libpolonezar.a has every function: link with -lpolonezar.
+ * libpolonezar-readers.a has pz_read_rule and pz_read_report alone: link with -lpolonezar-readers. From
+ * the C library they take memcpy, memmove, memset and memcmp at most.
+ *
+ * What each function answers and leaves in lent memory is proved of its code for every input: nothing
+ * has to be checked before a call. "Promise:" names the definition in Polonezar's source that says
+ * exactly what.
  *
  * Records. A number in a rule or a report has two bytes, the low byte first. A record is a length
  * (how many bytes follow the length), a kind, and a body of numbers; so a record takes 2 bytes more
@@ -14,26 +20,47 @@
  *
  *   A report record of kind 1 opens an element: length 4, body one label.
  *   A report record of kind 2 closes the innermost open element: length 2, no body.
- *   A report has one root and ends when the root is closed. The root is at level 0.
+ *   A report has one root and ends when the root is closed. The root is at level 0, a child one level
+ *   below its parent. Elements are numbered from 0 in order of opening.
  *
- *   A rule record is an entry; entries are numbered from 0. By its kind:
- *     kind 1                          length 2, no body
- *     kind 2                          length 4, body one label
- *     kinds 3, 6, 7, 8, 9 and 14      length 4, body one entry number
- *     kinds 4, 5, 10, 11, 12 and 13   length 6, body two entry numbers
- *   An entry number in a body is below the number of the entry that it stands in.
+ *   A rule record is an entry; entries are numbered from 0. The last entry is what the rule selects by.
+ *   In a body a and b are entry numbers, each below the number of the entry that it stands in.
+ *
+ *   kind  length  body   the entry holds at an element s exactly when                        looks
+ *   1     2       none   (at every element)                                                  back
+ *   2     4       label  s has this label                                                    back
+ *   3     4       a      a does not hold at s                                                back
+ *   4     6       a, b   at least one of a and b holds at s                                  back
+ *   5     6       a, b   both a and b hold at s                                              back
+ *   6     4       a      a holds at one child of s or more                                   ahead
+ *   7     4       a      s is not the root, and a holds at its parent                        back
+ *   8     4       a      a sibling comes right after s, and a holds at it                    ahead
+ *   9     4       a      a sibling comes right before s, and a holds at it                   back
+ *   10    6       a, b   b is reached from s downwards through a                             ahead
+ *   11    6       a, b   b is reached from s upwards through a                               back
+ *   12    6       a, b   b is reached from s through a along the siblings after it           ahead
+ *   13    6       a, b   b is reached from s through a along the siblings before it          back
+ *   14    4       a      s has children, and a holds at each of them                         ahead
+ *
+ *   "b is reached from s through a": going step by step (to a child, to the parent, to the next or to
+ *   the previous sibling) one can come to an element where b holds, so that a holds at every element
+ *   before it on the way, s included. The way may have no step: where b holds at s, a is not asked.
+ *   pz_evaluate takes every rule; pz_open and pz_close take those whose entries all look back.
  *
  * What a caller owes, and nothing checks: each pointer is valid for as many bytes (words, for marks)
  * as its length says, marks is aligned for uint64_t, lent buffers do not overlap, and nobody else
  * writes what is lent, or reads what is lent to be written, during the call. A length in bytes is at
- * most PTRDIFF_MAX. NULL with length 0 has been tried with every function and is fine: it is an empty
- * string, or a buffer of no words. NULL with another length is the caller's fault.
+ * most PTRDIFF_MAX. NULL with length 0 has been tried with every function that takes a length and is
+ * fine: it is an empty string, or a buffer of no words. NULL with another length is the caller's fault.
  *
- * No function keeps a pointer, allocates, prints or fails to return, and all may be called from
- * several threads at once, each with buffers of its own. pz_evaluate needs some 40 KiB of stack.
+ * No function keeps or frees a pointer, allocates, prints or fails to return, and all may be called from
+ * several threads at once, each with buffers of its own. pz_evaluate needs some 40 KiB of stack, the
+ * others less than 1 KiB.
  */
 #ifndef POLONEZAR_H
 #define POLONEZAR_H
+
+#define PZ_VERSION "0.1.0"
 
 #include <stddef.h>
 #include <stdint.h>
@@ -71,23 +98,26 @@ enum pz_number {
                                  root is closed already, or a report that stops too early */
     PZ_REPORT_FULL = 8,       /* more than 64 levels, or more than 4,096 elements */
     PZ_MARKS_SHORT = 9,       /* the buffer for marks has too few words */
-    PZ_LOOKS_AHEAD = 10,      /* one pass cannot follow this rule: an entry looks ahead */
-    PZ_STATE_BAD = 11,        /* the saved state of one pass is damaged or of another length */
+    PZ_LOOKS_AHEAD = 10,      /* one pass cannot follow this rule: an entry looks ahead, whether the last
+                                 entry uses it or not */
+    PZ_STATE_BAD = 11,        /* the state of one pass is damaged or of another length */
     PZ_TALLY = 12             /* the tally is full, or its counts do not add up */
 };
 
 /* What pz_read_rule gives. */
 struct pz_rule_reply {
     uint32_t number;          /* 0 accepted, else why not: 1, 2, 3 or 4 of pz_number */
-    uint32_t place;           /* for 2, 3 and 4 the byte offset at which the faulty record begins; else 0 */
+    uint32_t place;           /* for 2, 3 and 4 the byte offset in the rule at which the faulty record
+                                 begins; else 0 */
     uint32_t entries;         /* how many entries an accepted rule has, 1 to 64; 0 where it is refused */
 };
 
 /* What pz_read_report gives. */
 struct pz_report_reply {
     uint32_t number;          /* 0 accepted, else why not: 5, 6, 7 or 8 of pz_number */
-    uint32_t place;           /* for 6, 7 and 8 the byte offset at which the faulty record begins; for 7
-                                 at the end, where an element is still open, the report's length; else 0 */
+    uint32_t place;           /* for 6, 7 and 8 the byte offset in the report at which the faulty record
+                                 begins; for 7 at the end, where an element is still open, the report's
+                                 length; else 0 */
     uint32_t elements;        /* how many elements an accepted report has, 1 to 4,096; 0 where it is refused */
 };
 
@@ -109,13 +139,15 @@ struct pz_report_reply pz_read_report(const uint8_t *report, size_t report_len);
 /* What pz_evaluate gives. */
 struct pz_evaluation {
     uint32_t number;          /* 0 accepted, else why not: 1 to 9 of pz_number */
-    uint32_t place;           /* as the readers give it; 0 for 1, 5 and 9 */
+    uint32_t place;           /* as the reader of the rule (2, 3, 4) or of the report (6, 7, 8) gives it;
+                                 else 0 */
     uint32_t elements;        /* how many elements the report has; 0 where anything is refused */
     uint32_t selected;        /* at how many of them the rule's last entry holds; 0 where anything is refused */
 };
 
 /* Evaluates a rule on a report. Lent for this call: rule and report, only read; marks, a buffer of
- * `words` 64-bit words, written where all is accepted. Nothing is kept.
+ * `words` 64-bit words, written where all is accepted; 4,096 words are room for any report. Nothing is
+ * kept.
  * Gives: number 0, place 0, the elements and the selected count; bit i of marks[s] is then 1 exactly
  * where entry i holds at element s (elements are numbered from 0 in order of opening), its bits past
  * the last entry are 0, and words past the last element are as they were. Else the number and its
@@ -127,24 +159,37 @@ struct pz_evaluation pz_evaluate(const uint8_t *rule, size_t rule_len,
                                  const uint8_t *report, size_t report_len,
                                  uint64_t *marks, size_t words);
 
-/* The state of one pass: 1,040 bytes that the caller keeps, and may save and bring back. Numbers have
- * the low byte first.
+/* The state of one pass: 1,040 bytes that the caller keeps. Numbers and words have the low byte first.
  *
  *   at    bytes       what
  *   0     2           depth: how many elements are open, 0 to 64
  *   2     2           elements: how many have been opened, 0 to 4,096, never below depth
- *   4     2           root closed, 0 or 1; 1 only with depth 0
+ *   4     2           root closed: 0 or 1; 1 only with depth 0
  *   6     2           zero
- *   8     8           presence: bit d is 1 where last word d is that of a sibling
- *   16    64 times 8  open words: the marks of the open element of each level
- *   528   64 times 8  last words: the marks of the last closed element of each level
+ *   8     8           presence, a word: bit i says whether last word i counts
+ *   16    64 times 8  open words: word i, at 16 + 8 i, is that of the open element at level i
+ *   528   64 times 8  last words: word i, at 528 + 8 i, is that of the element closed last at level i
  *
- * A state that breaks one of these rules, or has another length, is 11. */
+ * Bad (11) is exactly: another length than 1,040, or one of the first four rows broken. Nothing else is
+ * tested. In a word bit e says whether entry e holds at that element, as in pz_evaluate's marks. Open
+ * words count below depth; the others, and last words without their presence bit, are left over.
+ *
+ * An opening at depth d takes open word d - 1 as the parent's (d 0: no parent) and last word d as the
+ * previous sibling's (presence bit d 0: none). It writes open word d, clears presence bit d + 1 where d
+ * is below 63, since the new element has no children yet, and adds 1 to depth and to elements. A closing
+ * at depth d copies open word d - 1 to last word d - 1, sets presence bit d - 1, takes 1 from depth, and
+ * sets root closed where depth is 0 then. All other bytes stay.
+ *
+ * A state may be copied, saved and brought back at any time between two calls, also by another process:
+ * it has no pointers. The rule is not in it, and its words are that rule's marks: save the rule's bytes
+ * beside the state and bring the same rule to every call from pz_start on. Another rule, or damage to
+ * presence or to a word, is not noticed, and the verdicts then mean nothing. */
 enum pz_state {
     PZ_STATE_BYTES = 1040,
     PZ_STATE_DEPTH = 0,
     PZ_STATE_ELEMENTS = 2,
     PZ_STATE_ROOT_CLOSED = 4,
+    PZ_STATE_ZEROS = 6,
     PZ_STATE_PRESENCE = 8,
     PZ_STATE_OPEN_WORDS = 16,
     PZ_STATE_LAST_WORDS = 528
@@ -157,15 +202,17 @@ struct pz_step {
     uint32_t verdict;         /* at an accepted opening 1 where the last entry holds at the element, else 0 */
 };
 
-/* Begins a pass. Lent for this call: state, written. Gives 0 and fills the state with zeros; a state of
- * another length than 1,040 is 11 and stays as it was.
+/* Begins a pass. Lent for this call: state, state_len bytes, written; what it holds does not matter.
+ * Gives: number 0 and a state of zeros; a length other than 1,040 is 11, and the bytes stay as they were.
  * Promise: Started (crates/onepass/specs/Step.antt). */
 struct pz_step pz_start(uint8_t *state, size_t state_len);
 
-/* Opens an element. Lent for this call: rule (read), state (read, written). Nothing is kept.
- * Gives: number 0 and the verdict, which is the one that pz_evaluate's marks give this element in every
- * report that begins with the tags accepted so far; else the number, place for 2, 3 and 4, verdict 0,
- * and the state as it was.
+/* Opens an element. Lent for this call: rule, rule_len bytes, only read; state, state_len bytes, read
+ * and written. Nothing is kept.
+ * Gives: number 0 and the verdict; else the number, place for 2, 3 and 4, verdict 0, and the state as it
+ * was. After pz_start and with the same rule throughout, the verdict is the last entry's bit that
+ * pz_evaluate gives this element in every report that begins with the tags accepted so far; calls that
+ * were refused count for nothing.
  * Order: what pz_read_rule gives for the rule, then 10, 11, 6 (the label is not one of 1 to 999), 7 (the
  * root is closed), 8 (64 elements are open, or 4,096 have been opened).
  * Promise: Opened (crates/onepass/specs/Step.antt). */
@@ -185,8 +232,9 @@ struct pz_counts {
 };
 
 /* Counts one verdict: 0 is a false one, anything else a true one. Lent for this call: tally, read and
- * written; it is not NULL. Gives 0; or 12, with the tally as it was, where seen is 4,294,967,295 or is
- * not the exact sum of the others.
+ * written; it is not NULL. Gives 0, and seen has risen by 1, and so has selected for a true verdict or
+ * passed_over for a false one; or 12, with the tally as it was, exactly where seen is 4,294,967,295 or is
+ * not the sum of the other two (which is not cut to 32 bits).
  * Promise: Tallied (crates/tally/specs/Tally.antt). */
 uint32_t pz_tally(struct pz_counts *tally, uint32_t verdict);
 

@@ -1,5 +1,5 @@
-/* One pass and the tally from C: case L, refused tags between accepted ones, bad states, NULL with length 0, and the
- * verdicts of a whole report against the evaluator's marks. The last line is 'N passed, M failed'. */
+/* One pass from C: case L, refused tags between accepted ones, bad states, NULL with length 0, and the verdicts of a
+ * whole report, counted in a tally, against the evaluator's marks. The last line is 'N passed, M failed'. */
 #include "polonezar.h"
 #include "check.h"
 #include <stdio.h>
@@ -153,14 +153,6 @@ static void bad_pairs(void)
     refused("a state one byte shorter", shorter, 11);
 }
 
-static void tallies(void)
-{
-    struct pz_counts full = {4294967295u, 4294967295u, 0}, off = {3, 1, 1}, wraps = {0, 4294967295u, 1};
-    check(pz_tally(&full, 1) == 12 && full.seen == 4294967295u && full.passed_over == 0, "a full tally");
-    check(pz_tally(&off, 0) == 12 && off.seen == 3 && off.passed_over == 1, "a tally out of balance");
-    check(pz_tally(&wraps, 0) == 12 && wraps.seen == 0, "a sum that would wrap");
-}
-
 int main(void)
 {
     struct pz_step r;
@@ -174,7 +166,6 @@ int main(void)
     bad(PZ_STATE_ELEMENTS + 1, 17, "elements above 4,096");
     bad_pairs();
     not_reached();
-    tallies();
     r = pz_start(NULL, 0);
     check(step(r, 11, 0, 0), "start with nothing");
     r = pz_open(rule_b, sizeof rule_b, NULL, 0, 1);

@@ -1,5 +1,6 @@
-//! Links the comparison with the archives that `rt staticlib` writes: librecords.a always, and libNAME.a for each
-//! feature NAME that is on. They are in the folder that PZ_ARCHIVES names, else in target/staticlib of the repository.
+//! Links the comparison with the exported functions: with the one library of the package that PZ_PACKAGE names; else
+//! with the archives that `rt staticlib` writes, librecords.a always, and libNAME.a for each feature NAME that is on.
+//! They are in the folder that PZ_ARCHIVES names, else in target/staticlib of the repository.
 
 use std::env;
 use std::path::PathBuf;
@@ -10,16 +11,25 @@ fn wanted(name: &str) -> bool {
     name == "records" || env::var_os(format!("CARGO_FEATURE_{}", name.to_uppercase())).is_some()
 }
 
-fn folder() -> PathBuf {
-    let named = env::var_os("PZ_ARCHIVES").map(PathBuf::from);
-    named.unwrap_or_else(|| PathBuf::from(env::var_os("CARGO_MANIFEST_DIR").unwrap()).join("../../target/staticlib"))
+/// A folder that the environment names; nothing is named by an empty word.
+fn named(variable: &str) -> Option<PathBuf> {
+    println!("cargo:rerun-if-env-changed={variable}");
+    env::var_os(variable).filter(|name| !name.is_empty()).map(PathBuf::from)
+}
+
+fn libraries() -> Vec<PathBuf> {
+    let archives = named("PZ_ARCHIVES");
+    if let Some(package) = named("PZ_PACKAGE") {
+        return vec![package.join("lib/libpolonezar.a")];
+    }
+    let folder = archives
+        .unwrap_or_else(|| PathBuf::from(env::var_os("CARGO_MANIFEST_DIR").unwrap()).join("../../target/staticlib"));
+    ARCHIVES.into_iter().filter(|name| wanted(name)).map(|name| folder.join(format!("lib{name}.a"))).collect()
 }
 
 fn main() {
-    println!("cargo:rerun-if-env-changed=PZ_ARCHIVES");
-    for name in ARCHIVES.into_iter().filter(|name| wanted(name)) {
-        let archive = folder().join(format!("lib{name}.a"));
-        println!("cargo:rerun-if-changed={}", archive.display());
-        println!("cargo:rustc-link-arg-bins={}", archive.display());
+    for library in libraries() {
+        println!("cargo:rerun-if-changed={}", library.display());
+        println!("cargo:rustc-link-arg-bins={}", library.display());
     }
 }

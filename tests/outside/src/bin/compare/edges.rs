@@ -45,6 +45,8 @@ pub fn rules() -> Vec<Vec<u8>> {
     rules.extend([63, 64, 65, 66].map(|count| rule_bytes(&vec![TRUE; count])));
     rules.extend([0, 1, 999, 1_000, 65_535].map(|edge| rule_bytes(&[label(edge)])));
     rules.push(rule_bytes(&[entry(3, 0, 0)]));
+    let named = [entry(3, 1, 0), entry(3, 2, 0), entry(5, 1, 0), entry(5, 2, 0), entry(5, 0, 1), entry(5, 0, 2)];
+    rules.extend(named.map(|last| rule_bytes(&[TRUE, last])));
     let longest = rule_bytes(&[&[label(5)], &[entry(4, 0, 0); 63][..]].concat());
     rules.extend([0, 1, 2, 3].map(|more| [&longest[..], &[1; 3][..more]].concat()));
     rules.extend((0..6).map(|less| longest[..longest.len() - less].to_vec()));

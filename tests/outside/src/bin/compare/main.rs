@@ -1,16 +1,18 @@
 //! Compares the exported functions with the document's words, call by call, on inputs made from a seed.
 //!
-//! compare [--seed N] [--inputs N] [--from N] [--program FILE]
+//! compare [--seed N] [--inputs N] [--from N] [--program FILE] [--keep FILE]
 //!
 //! First the document's samples and edges, then `inputs` made inputs, beginning with the one numbered `from`. With
-//! `--program` the program is run on a share of inputs too. A difference is printed with the seed, the input's number
-//! and the input. Then comes the table of how often each number was given by each of its causes; a cause that was
-//! never met is a failure. The last line is 'N passed, M failed'; the exit status is 1 if anything failed.
+//! `--program` the program is run on a share of inputs too. With `--keep` every call of an exported function is written
+//! to a file, with what is expected of it (kept.rs). A difference is printed with the seed, the input's number and the
+//! input. Then comes the table of how often each number was given by each of its causes; a cause that was never met is
+//! a failure. The last line is 'N passed, M failed'; the exit status is 1 if anything failed.
 
 mod calls;
 mod edges;
 mod exported;
 mod inputs;
+mod kept;
 // The readers by themselves write nothing to what they are lent.
 #[cfg_attr(not(all(feature = "evaluate", feature = "onepass", feature = "tally")), allow(dead_code))]
 mod lent;
@@ -26,6 +28,7 @@ mod tally;
 mod whole;
 
 use calls::Call;
+use kept::Keeper;
 use random::Random;
 use run::Run;
 use std::process::ExitCode;
@@ -128,10 +131,11 @@ struct Options {
     inputs: u64,
     from: u64,
     program: Option<String>,
+    keep: Option<String>,
 }
 
 fn options() -> Result<Options, String> {
-    let mut options = Options { seed: 1, inputs: INPUTS, from: 0, program: None };
+    let mut options = Options { seed: 1, inputs: INPUTS, from: 0, program: None, keep: None };
     let mut words = std::env::args().skip(1);
     while let Some(word) = words.next() {
         let value = words.next().ok_or(format!("{word} needs a value"))?;
@@ -141,22 +145,29 @@ fn options() -> Result<Options, String> {
             "--inputs" => options.inputs = number()?,
             "--from" => options.from = number()?,
             "--program" => options.program = Some(value),
+            "--keep" => options.keep = Some(value),
             _ => return Err(format!("unknown word {word}")),
         }
     }
     Ok(options)
 }
 
+fn keeper(options: &Options) -> Result<Option<Keeper>, String> {
+    let Some(name) = &options.keep else { return Ok(None) };
+    Keeper::new(name).map(Some).map_err(|error| format!("--keep {name}: {error}"))
+}
+
 fn main() -> ExitCode {
-    let Options { seed, inputs, from, program } = match options() {
-        Ok(options) => options,
+    let begun = options().and_then(|options| Ok((keeper(&options)?, options)));
+    let (keeper, Options { seed, inputs, from, program, .. }) = match begun {
+        Ok(begun) => begun,
         Err(message) => {
             eprintln!("compare: {message}");
             return ExitCode::from(2);
         }
     };
     println!("seed {seed}, inputs {from} to {}", from + inputs);
-    let mut run = Run::new(seed);
+    let mut run = Run::new(seed, keeper);
     fixed_inputs(&mut run, &mut Random::of(seed, u64::MAX));
     for input in program.iter().flat_map(|_| program::edge_inputs()) {
         program::compare(&mut run, program.as_deref().unwrap_or_default(), &input);

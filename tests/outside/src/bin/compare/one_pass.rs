@@ -4,6 +4,7 @@ use crate::calls::Call;
 use crate::edges;
 use crate::exported;
 use crate::inputs;
+use crate::kept::Kept;
 use crate::lent::Lent;
 use crate::random::Random;
 use crate::run::{hex, Run};
@@ -56,6 +57,13 @@ fn compare(run: &mut Run, random: &mut Random, step: Step, rule: &[u8], state: &
     let input = || format!("  {step:?}\n{}\n{}", hex("rule", rule), hex("state", lent_state.lent()));
     run.same(step.call(), (due, true), (reply, kept), input);
     run.same(step.call(), first_difference(state, lent_state.content()), None, input);
+    let (argument, rule) = match step {
+        Step::Start => (0, &[][..]),
+        Step::Open(label) => (label, rule),
+        Step::Close => (0, rule),
+    };
+    let answer = [due.number, due.place, due.found, 0];
+    run.keep(&Kept { call: step.call(), argument, answer, rule, report: &[], before: lent_state.lent(), after: state });
     run.met(step.call(), &causes);
     due
 }

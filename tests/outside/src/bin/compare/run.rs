@@ -1,6 +1,7 @@
 //! One run: what was compared, what differed, and how often each cause was met.
 
 use crate::calls::Call;
+use crate::kept::{Keeper, Kept};
 use outside::cause::Cause;
 use std::collections::BTreeMap;
 use std::fmt::Debug;
@@ -18,14 +19,15 @@ pub struct Run {
     pub seed: u64,
     /// The number of the input in hand; none while the fixed inputs are run.
     pub input: Option<u64>,
+    keeper: Option<Keeper>,
     counts: BTreeMap<(Call, Cause), Count>,
     passed: u64,
     failed: u64,
 }
 
 impl Run {
-    pub fn new(seed: u64) -> Run {
-        Run { seed, input: None, counts: BTreeMap::new(), passed: 0, failed: 0 }
+    pub fn new(seed: u64, keeper: Option<Keeper>) -> Run {
+        Run { seed, input: None, keeper, counts: BTreeMap::new(), passed: 0, failed: 0 }
     }
 
     /// Holds what a call did to what the document says. `input` spells what the call was given.
@@ -44,6 +46,13 @@ impl Run {
         }
     }
 
+    /// Keeps a call of an exported function, where that was asked for.
+    pub fn keep(&mut self, kept: &Kept) {
+        if let Some(keeper) = &mut self.keeper {
+            keeper.keep(kept).unwrap_or_else(|error| panic!("a call cannot be kept: {error}"));
+        }
+    }
+
     /// Counts the causes of a call's number; a cause is alone if no other would have given the number there.
     pub fn met(&mut self, call: Call, causes: &[Cause]) {
         for cause in causes {
@@ -53,8 +62,12 @@ impl Run {
         }
     }
 
-    /// Prints the table of counts; a cause that never occurred by itself is a failure. Gives whether all is well.
+    /// Ends the kept file and prints the table of counts; a cause that never occurred by itself is a failure. Gives
+    /// whether all is well.
     pub fn end(mut self, calls: &[Call]) -> bool {
+        if let Some(keeper) = self.keeper.take() {
+            keeper.end().unwrap_or_else(|error| panic!("the calls cannot be kept: {error}"));
+        }
         println!("{:<15} {:>3}  {:<45} {:>9} {:>9}", "call", "no.", "cause", "met", "alone");
         for call in calls {
             let mut due = call.due();

@@ -2,6 +2,7 @@
 
 use crate::calls::Call;
 use crate::exported;
+use crate::kept::Kept;
 use crate::lent::Lent;
 use crate::random::Random;
 use crate::run::Run;
@@ -51,5 +52,16 @@ fn compare(run: &mut Run, random: &mut Random, tally: Tally, verdict: u32) {
     let found = (number, lent.content().to_vec(), lent.guards_kept());
     let input = || format!("  {tally:?}, verdict {verdict}");
     run.same(Call::Tally, (due, numbers(after).to_vec(), true), found, input);
+    let [before, after] = [tally, after].map(|tally| numbers(tally).map(u32::to_le_bytes).concat());
+    let answer = [due, 0, 0, 0];
+    run.keep(&Kept {
+        call: Call::Tally,
+        argument: verdict,
+        answer,
+        rule: &[],
+        report: &[],
+        before: &before,
+        after: &after,
+    });
     run.met(Call::Tally, &causes);
 }

@@ -3,6 +3,7 @@
 use crate::calls::Call;
 use crate::exported;
 use crate::inputs;
+use crate::kept::Kept;
 use crate::lent::Lent;
 use crate::random::Random;
 use crate::run::{hex, Run};
@@ -52,7 +53,15 @@ pub fn compare_with(run: &mut Run, random: &mut Random, rule: &[u8], report: &[u
     let kept = lent_rule.untouched() && lent_report.untouched() && marks.guards_kept();
     run.same(Call::Evaluate, (due, true), (reply, kept), input);
     run.same(Call::Evaluate, first_difference(&buffer, marks.content()), None, input);
+    let answer = [due.number, due.place, due.elements, due.selected];
+    let [before, after] = [before, buffer].map(|words| in_memory(&words));
+    run.keep(&Kept { call: Call::Evaluate, argument: 0, answer, rule, report, before: &before, after: &after });
     run.met(Call::Evaluate, &causes);
+}
+
+/// Words as they lie in memory: the low byte first, on the machines that the archives are for.
+fn in_memory(words: &[u64]) -> Vec<u8> {
+    words.iter().flat_map(|word| word.to_le_bytes()).collect()
 }
 
 /// Where two buffers differ first: the index and the two words.
