@@ -213,6 +213,8 @@ struct pz_step pz_start(uint8_t *state, size_t state_len);
  * was. After pz_start and with the same rule throughout, the verdict is the last entry's bit that
  * pz_evaluate gives this element in every report that begins with the tags accepted so far; calls that
  * were refused count for nothing.
+ * A refused opening opens nothing, so its closing must not be sent either: it would close the parent.
+ * Label 0 asks about rule and state alone: 6 says that both are good, and nothing changes.
  * Order: what pz_read_rule gives for the rule, then 10, 11, 6 (the label is not one of 1 to 999), 7 (the
  * root is closed), 8 (64 elements are open, or 4,096 have been opened).
  * Promise: Opened (crates/onepass/specs/Step.antt). */

@@ -25,7 +25,7 @@ use Rattle.grammar.proofs.Bytes.{number-back, number-shift, bytes-split
 use Rattle.grammar.proofs.Tells.{Told, holds, fails, eqb-told}
 use Rattle.grammar.proofs.Frame.{Sound, sound-unfaulty, unfaulty-sound, start-strict, start-within}
 use Rattle.grammar.proofs.Fits.{fit-snoc}
-use Rattle.grammar.proofs.Trees.{bytes-append, bytes-size, tree-some, tags-size, tags-only, legal-tree, tree-legal}
+use Rattle.grammar.proofs.Trees.{bytes-append, bytes-size, tree-some, tags-size, tags-start-only, tags-only, legal-tree, tree-legal}
 use Rattle.grammar.proofs.WhenReport.{record-0-iff, clean-unfaulty, report-accepted-iff, report-last}
 
 -- ---- reading where a tag was written
@@ -260,3 +260,43 @@ tags-are s t e w = ap (tagsBefore s) (report-last s (length (tagsT t)) (tree-end
 -- Two trees with the same bytes are one.
 pub report-only : (t u : Tree) → bytesOf (tagsT t) ≡ bytesOf (tagsT u) → t ≡ u
 report-only t u e = tags-only t u (bytes-only (tagsT t) (tagsT u) e)
+
+-- ---- a report that lost its end
+
+-- What is read before a record begins with what is read before an earlier one.
+tags-begin : (s : List ℕ) (m n : ℕ) → m ≤ n → (vs : List Tag) × (tagsBefore s n ≡ tagsBefore s m ++ vs)
+unfolding tagsBefore
+tags-begin s m zero h = let e : m ≡ 0 = omega arith in ([], rw e refl)
+tags-begin s m (suc n) h =
+    ⊎-elim (λ e. ([], rw e (sym (append-nil (tagsBefore s (suc n))))))
+    (λ l. let r = tags-begin s m n (le-of-suc-le-suc l) in
+    (r .0 ++ (tagAt s (startOf s n) ∷ []),
+    ap (λ (ts : List Tag). ts ++ (tagAt s (startOf s n) ∷ [])) (r .1) ∙ append-assoc (tagsBefore s m) (r .0) (tagAt s (startOf s n) ∷ [])))
+    (eq-or-lt-of-le h)
+
+-- A tree's bytes begin those of another tree only where both trees are one, and then nothing follows.
+pub tree-begins-only : (t u : Tree) (rest : List ℕ) → bytesOf (tagsT u) ≡ bytesOf (tagsT t) ++ rest → (t ≡ u) × (rest ≡ [])
+tree-begins-only t u rest e =
+    let s = bytesOf (tagsT u) in
+    let r = tags-back (tagsT t) rest s e in
+    let q = tags-back (tagsT u) [] s (sym (append-nil s)) in
+    let fewer : length (tagsT t) ≤ length (tagsT u) =
+    elim (decLt (length (tagsT u)) (length (tagsT t))) [
+      | yes l ↦ absurd (omega (arith, start-strict s (length (tagsT u)) (length (tagsT t)) l, r .starts, q .starts, ap length e, length-append (bytesOf (tagsT t)) rest))
+      | no n ↦ omega (arith, n)
+    ] in
+    let more = tags-begin s (length (tagsT t)) (length (tagsT u)) fewer in
+    let same = tags-start-only t u (more .0) [] (ap (λ (ts : List Tag). ts ++ more .0) (sym (r .reads)) ∙ sym (more .1) ∙ q .reads ∙ sym (append-nil (tagsT u))) in
+    (same .0, empty-rest rest (omega (arith, ap (λ (v : Tree). length (bytesOf (tagsT v))) (same .0), ap length e, length-append (bytesOf (tagsT t)) rest)))
+  where
+    empty-rest : (l : List ℕ) → length l ≡ 0 → l ≡ []
+    empty-rest [] h = refl
+    empty-rest (x ∷ xs) h = absurd (omega arith)
+
+-- An accepted report that lost any part of its end is not accepted: no tag that is missing is guessed.
+pub report-cut : (s rest : List ℕ) → Bytes s → Bytes (s ++ rest) → (m n : ℕ) → reportAnswer (s ++ rest) ≡ Accepted n
+    → reportAnswer s ≡ Accepted m → rest ≡ []
+report-cut s rest b c m n whole part =
+    let t = accepted-tree s b m part in
+    let u = accepted-tree (s ++ rest) c n whole in
+    tree-begins-only (t .0) (u .0) rest (sym (u .1) ∙ ap (λ (l : List ℕ). l ++ rest) (t .1)) .1
