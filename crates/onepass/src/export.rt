@@ -14,7 +14,7 @@ use crate::state::store_closing;
 use crate::state::store_opening;
 use crate::step::looks_ahead;
 use crate::step::step_word;
-use crate::word::bit_at;
+use bits::bit_at;
 use records::answer::Answer;
 use records::report::close_fault;
 use records::report::open_fault;

@@ -12,7 +12,7 @@ use crate::bytes::number_at;
 use crate::bytes::put_number;
 use crate::bytes::put_word;
 use crate::bytes::word_at;
-use crate::word::bit_at;
+use bits::bit_at;
 use crate::word::with_bit;
 
 // Whether the state is bad.

@@ -7,7 +7,7 @@ ghost use Rattle.meaning.specs.OnePass.{stepBit, stepWord};
 ghost use Rattle.grammar.specs.Columns.{tableOf};
 ghost use Rattle.onepass.specs.Step.{looksAhead};
 use crate::word::add_bit;
-use crate::word::bit_at;
+use bits::bit_at;
 use records::kind::looks_back;
 
 fn wide(x: u16) -> usize

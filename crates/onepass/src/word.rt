@@ -1,15 +1,8 @@
-// Bits of a word.
+// A word with one bit more, or another.
 ghost use mathlib.Core.Path.{_≡_};
 ghost use Prim.Native.Nat.{_+_, _*_, _^_, _<_};
-ghost use Rattle.meaning.specs.Marks.{bit, bitAt};
+ghost use Rattle.meaning.specs.Marks.{bit};
 ghost use Rattle.onepass.specs.Bytes.{withBit};
-
-// Bit a of a word; there is none from 64 on.
-pub(crate) fn bit_at(w: u64, a: usize) -> bool
-    ensures { λ r. ⌜ r ≡ bitAt w a ⌝ }
-{
-    if a < 64 { (w >> a) % 2 == 1 } else { false }
-}
 
 // A word of the bits below i, with bit i added.
 pub(crate) fn add_bit(w: u64, i: usize, on: bool) -> u64

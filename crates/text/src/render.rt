@@ -5,6 +5,7 @@ ghost use lib.ListN.{length};
 ghost use Rattle.meaning.specs.Marks.{bit, bitAt};
 ghost use Rattle.text.specs.Text.{refusedLine, elementLine};
 ghost use Rattle.text.specs.Rendered.{Put, Rendered, clamped, tableLines, tableText};
+use bits::bit_at;
 use crate::put::put_field;
 use crate::put::put_phrase;
 use crate::put::put_word;
@@ -32,13 +33,6 @@ fn wide(x: u16) -> usize
     ensures { λ r. ⌜ (r ≡ x) × (r < 65536) ⌝ }
 {
     x as usize
-}
-
-// Bit a of a word; there is none from 64 on.
-fn bit_at(w: u64, a: usize) -> bool
-    ensures { λ r. ⌜ r ≡ bitAt w a ⌝ }
-{
-    if a < 64 { (w >> a) % 2 == 1 } else { false }
 }
 
 // How many elements the tables have, of so many.
