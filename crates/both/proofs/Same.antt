@@ -23,13 +23,7 @@ use Rattle.evaluate.proofs.Means.{word-is}
 use Rattle.onepass.specs.Step.{Started}
 use Rattle.onepass.specs.Calls.{Call, Calls, tagsOf}
 use Rattle.onepass.specs.declared.export.StepReply.{StepReply}
-use Rattle.onepass.proofs.Agrees.{report-fed}
-
--- The tags of calls, one call and more calls are those of the parts.
-tags-append : (cs ds : List Call) → tagsOf (cs ++ ds) ≡ tagsOf cs ++ tagsOf ds
-unfolding tagsOf
-tags-append [] ds = refl
-tags-append (c ∷ cs) ds = ap (λ (ts : List Tag). c .tag ∷ ts) (tags-append cs ds)
+use Rattle.onepass.proofs.Agrees.{tags-append, report-fed}
 
 module _ (rule report : List ℕ) (m n : ℕ) (rule-taken : ruleAnswer rule ≡ Accepted m) (back : LooksBack (entriesOf rule))
     (bytes : Bytes report) (report-taken : reportAnswer report ≡ Accepted n) where

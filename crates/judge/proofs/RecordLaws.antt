@@ -22,6 +22,7 @@ use Rattle.grammar.proofs.WhenRule.{rule-numbers}
 use Rattle.grammar.proofs.Entries.{entries-count, entries-some}
 use Rattle.grammar.proofs.Elements.{elements-count, levels-elements, elements-few}
 use Rattle.meaning.specs.Marks.{bitAt, wordOf, verdict, selected}
+use Rattle.meaning.proofs.Words.{pred-sub}
 use Rattle.evaluate.specs.Evaluation.{judged, evaluation, meantWords, Evaluated}
 use Rattle.evaluate.specs.declared.evaluate.Evaluation.{Evaluation}
 use Rattle.evaluate.proofs.Means.{counted, word-is}
@@ -80,10 +81,6 @@ accepted-with rule report marks after r e z =
     }
 
 -- ---- the text of the tables is the record
-
-pred-sub : (n : ℕ) → n - 1 ≡ pred n
-pred-sub zero = refl
-pred-sub (suc n) = omega arith
 
 -- An accepted rule has an entry, and the reader's reply counts the entries.
 pub entries-known : (rule report marks : List ℕ) (elements chosen : ℕ) (r : RuleReply) → AcceptedWith rule report marks elements chosen

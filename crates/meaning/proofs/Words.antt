@@ -18,6 +18,16 @@ use Rattle.meaning.specs.Marks.{bit, bitAt, word, mark, wordOf, wordsBel
 
 -- ---- bits
 
+-- The number before a number, as the machine works it out.
+pub pred-sub : (n : ℕ) → n - 1 ≡ pred n
+pred-sub zero = refl
+pred-sub (suc n) = omega arith
+
+-- A bit is one bit wide.
+pub bit-small : (b : Bool) → bit b < 2 ^ 1
+bit-small true = omega arith
+bit-small false = omega arith
+
 bit-le : (b : Bool) (p : ℕ) → bit b * p ≤ p
 bit-le true p = omega (arith, one-mul p)
 bit-le false p = omega (arith, zero-mul p)

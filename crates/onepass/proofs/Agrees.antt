@@ -80,7 +80,7 @@ calls-split (b ∷ before) c later s (then {next = next} p more) =
     let r = calls-split before c later next more in (r .0, r .1, then p (r .2), r .3, r .4)
 
 -- The tags of calls one after the other.
-tags-append : (cs ds : List Call) → tagsOf (cs ++ ds) ≡ tagsOf cs ++ tagsOf ds
+pub tags-append : (cs ds : List Call) → tagsOf (cs ++ ds) ≡ tagsOf cs ++ tagsOf ds
 unfolding tagsOf
 tags-append [] ds = refl
 tags-append (c ∷ cs) ds = ap (λ (ts : List Tag). c .tag ∷ ts) (tags-append cs ds)

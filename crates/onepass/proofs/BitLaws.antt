@@ -10,12 +10,8 @@ use lib.Bits.{bitOr, or-shifted-r}
 use lib.Dec.{eqb}
 use lib.Pow.{pow-pos, pow-add, high, low, split, shl-exact, shr-shr, field, mod-mod-pow}
 use Rattle.meaning.specs.Marks.{bit, bitAt}
-use Rattle.meaning.proofs.Words.{word-lt, word-bit, word-only}
+use Rattle.meaning.proofs.Words.{bit-small, word-lt, word-bit, word-only}
 use Rattle.onepass.specs.Bytes.{withBit}
-
-bit-small : (b : Bool) → bit b < 2 ^ 1
-bit-small true = omega arith
-bit-small false = omega arith
 
 -- A bit added above i bits, as the machine adds it.
 pub add-bit-is : (i w : ℕ) (on : Bool) → i < 64 → w < 2 ^ i → bitOr w ((bit on * 2 ^ i) % 2 ^ 64) ≡ bit on * 2 ^ i + w

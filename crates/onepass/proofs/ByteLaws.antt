@@ -11,11 +11,6 @@ use lib.Seq.{getD-set-same, getD-set-other}
 use Rattle.grammar.specs.Bytes.{Bytes}
 use Rattle.onepass.specs.Bytes.{wordAt, putAt}
 
--- The number before a number, as the machine works it out.
-pub pred-sub : (n : ℕ) → n - 1 ≡ pred n
-pred-sub zero = refl
-pred-sub (suc n) = omega arith
-
 -- ---- parts and bounds
 
 -- A number of j + k bytes is the number of the first j, and above it that of the other k.

@@ -24,7 +24,7 @@ use Rattle.onepass.specs.Step.{reply, startAnswer, startAfter, openedByt
 use Rattle.onepass.specs.Step.{Started, Answered}
 use Rattle.grammar.specs.Columns.{tableOf}
 use Rattle.onepass.specs.declared.export.StepReply.{StepReply}
-use Rattle.onepass.proofs.ByteLaws.{pred-sub}
+use Rattle.meaning.proofs.Words.{pred-sub}
 use Rattle.grammar.proofs.Columns.{table-of-columns}
 use Rattle.onepass.proofs.StateLaws.{good-iff}
 use Rattle.onepass.proofs.CallLaws.{call-taken, opened-is, closed-is, opened-read, opens-room, closes-room}

@@ -1,6 +1,6 @@
 -- `parent_word` reads open word d - 1, if there is one. Assumes nothing.
 use borrow.Author.Tests.{eq-eqb, ne-eqb}
-use Rattle.onepass.proofs.ByteLaws.{pred-sub}
+use Rattle.meaning.proofs.Words.{pred-sub}
 use borrow.Author.Needs.{needs}
 use Rattle.onepass.proofs.state.parent_word.Statement.{statement}
 use Rattle.onepass.proofs.state.parent_word.Tie as tie
