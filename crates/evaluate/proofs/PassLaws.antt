@@ -117,23 +117,30 @@ module _ {n i : ℕ} {before : List ℕ} (room : Room n i before) (m : ℕ → B
   pub ascent-word : {after : List ℕ} (k : ℕ) → k < n → Passed n i (before-only m k) before after → getD after k 0 ≡ getD before k 0
   ascent-word k l r = r .stored .put k l ∙ rw (le-ltb k k (omega arith), zero-mul, zero-add)
 
+  pub ascent-small : {after : List ℕ} (k : ℕ) → k < n → Passed n i (before-only m k) before after → getD after k 0 < 2 ^ i
+  ascent-small k l r = rw (ascent-word k l r) (room .small k l)
+
   -- One element more.
   pub ascent-turn : {after : List ℕ} (k : ℕ) (on : Bool) → k < n → on ≡ m k → Passed n i (before-only m k) before after
-      → Passed n i (before-only m (k + 1)) before (set after k (bit on * 2 ^ i + getD after k 0 % 2 ^ i))
-  ascent-turn k on l e r = passed-same room (λ s h. turn s) (passed-set room r k l on) where
-    turn : (s : ℕ) → at-put (before-only m k) k on s ≡ before-only m (k + 1) s
-    turn s =
-        elim (ℕ-discrete s k) [
-          | yes q ↦ rw (q, eq-eqb k k refl, lt-ltb k (k + 1) (omega arith)) e
-          | no ne ↦ rw (ne-eqb s k ne) (ap (λ (b : Bool). b && m s) (side s ne))
-        ]
-      where
-        side : (s : ℕ) → (s ≡ k → ⊥) → ltb s k ≡ ltb s (k + 1)
-        side s ne =
-            elim (decLt s k) [
-              | yes h ↦ lt-ltb s k h ∙ sym (lt-ltb s (k + 1) (omega arith))
-              | no h ↦ le-ltb s k (omega arith) ∙ sym (le-ltb s (k + 1) (omega arith))
-            ]
+      → Passed n i (before-only m (k + 1)) before (set after k (bit on * 2 ^ i + getD after k 0))
+  ascent-turn {after} k on l e r =
+      subst (λ (w : ℕ). Passed n i (before-only m (k + 1)) before (set after k (bit on * 2 ^ i + w)))
+      (passed-rest room r k l ∙ sym (ascent-word k l r))
+      (passed-same room (λ s h. turn s) (passed-set room r k l on))
+    where
+      turn : (s : ℕ) → at-put (before-only m k) k on s ≡ before-only m (k + 1) s
+      turn s =
+          elim (ℕ-discrete s k) [
+            | yes q ↦ rw (q, eq-eqb k k refl, lt-ltb k (k + 1) (omega arith)) e
+            | no ne ↦ rw (ne-eqb s k ne) (ap (λ (b : Bool). b && m s) (side s ne))
+          ]
+        where
+          side : (s : ℕ) → (s ≡ k → ⊥) → ltb s k ≡ ltb s (k + 1)
+          side s ne =
+              elim (decLt s k) [
+                | yes h ↦ lt-ltb s k h ∙ sym (lt-ltb s (k + 1) (omega arith))
+                | no h ↦ le-ltb s k (omega arith) ∙ sym (le-ltb s (k + 1) (omega arith))
+              ]
 
   -- Every element.
   pub ascent-end : {after : List ℕ} (k : ℕ) → n ≤ k → Passed n i (before-only m k) before after → Passed n i m before after

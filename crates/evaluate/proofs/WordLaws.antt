@@ -1,12 +1,15 @@
--- The machine's masks and shifts as numbers: bit i put above the bits below it. Assumes nothing.
-use Prim.Native.Nat.{ℕ, _+_, _*_, _^_, _%_, _-_, _≤_, _<_}
+-- The machine's masks and shifts as numbers: bit i put above the bits below it, and gates. Assumes nothing.
+use Prim.Native.Nat.{ℕ, zero, suc, _+_, _*_, _^_, _%_, _-_, _≤_, _<_}
 use native.Mathlib.Nat.{mod-lt, one-mul}
 use native.Mathlib.Omega.{arith}
-use mathlib.Core.Path.{_≡_, _∙_}
-use mathlib.Core.Bool.{Bool, true, false}
-use lib.Bits.{bitAnd, bitOr, and-mask, or-shifted-r}
+use mathlib.Core.Path.{_≡_, refl, ap, _∙_}
+use mathlib.Core.Bool.{Bool, true, false, xor, _&&_}
+use lib.Dec.{eqb}
+use lib.Bits.{bitAnd, bitOr, bitXor, and-mask, or-shifted-r, and-mod, xor-mod}
 use lib.Pow.{pow-pos, shl-exact}
 use Rattle.meaning.specs.Marks.{bit}
+use Rattle.evaluate.specs.Steps.{gateMark}
+use Rattle.evaluate.specs.declared.local.Gate.{Gate}
 
 -- 1 shifted by i fits a word, and is 1 or more.
 pub one-shifted : (i : ℕ) → i < 64 → (1 ≤ (1 * 2 ^ i) % 2 ^ 64) × ((1 * 2 ^ i) % 2 ^ 64 ≡ 2 ^ i)
@@ -24,3 +27,63 @@ pub masked-bit : (i w : ℕ) (on : Bool) → i < 64
 masked-bit i w on l =
     rw (one-shifted i l .1, and-mask w i, shl-exact 1 i 64 (bit-lt on) (omega arith))
     (or-shifted-r (bit on) i (w % 2 ^ i) (mod-lt w (pow-pos i)))
+
+-- The machine's `w | ((on as u64) << i)`, of a word with bits below i only.
+pub joined-bit : (i w : ℕ) (on : Bool) → i < 64 → w < 2 ^ i → bitOr w ((bit on * 2 ^ i) % 2 ^ 64) ≡ bit on * 2 ^ i + w
+joined-bit i w on l h = rw (shl-exact 1 i 64 (bit-lt on) (omega arith)) (or-shifted-r (bit on) i w h)
+
+-- ---- gates
+
+-- An operation that is h on bits, and goes through to lowest bits, is h on lowest bits.
+module _ (f : ℕ → ℕ → ℕ) (h : Bool → Bool → Bool) (bits : (p q : Bool) → eqb (f (bit p) (bit q)) 1 ≡ h p q)
+    (through : (x y : ℕ) → f x y % 2 ≡ f (x % 2) (y % 2)) where
+  of-two : (p q : ℕ) → p < 2 → q < 2 → eqb (f p q) 1 ≡ h (eqb p 1) (eqb q 1)
+  of-two zero zero l m = bits false false
+  of-two zero (suc zero) l m = bits false true
+  of-two zero (suc (suc q)) l m = absurd (omega arith)
+  of-two (suc zero) zero l m = bits true false
+  of-two (suc zero) (suc zero) l m = bits true true
+  of-two (suc zero) (suc (suc q)) l m = absurd (omega arith)
+  of-two (suc (suc p)) q l m = absurd (omega arith)
+
+  of-lowest : (x y : ℕ) → eqb (f x y % 2) 1 ≡ h (eqb (x % 2) 1) (eqb (y % 2) 1)
+  of-lowest x y =
+      ap (λ (n : ℕ). eqb n 1) (through x y) ∙ of-two (x % 2) (y % 2) (mod-lt x (omega arith)) (mod-lt y (omega arith))
+
+xor-bits : (p q : Bool) → eqb (bitXor (bit p) (bit q)) 1 ≡ xor p q
+unfolding xor
+xor-bits true true = refl
+xor-bits true false = refl
+xor-bits false true = refl
+xor-bits false false = refl
+
+and-bits : (p q : Bool) → eqb (bitAnd (bit p) (bit q)) 1 ≡ (p && q)
+and-bits true true = refl
+and-bits true false = refl
+and-bits false true = refl
+and-bits false false = refl
+
+odd-xor : (x y : ℕ) → eqb (bitXor x y % 2) 1 ≡ xor (eqb (x % 2) 1) (eqb (y % 2) 1)
+odd-xor = of-lowest bitXor xor xor-bits (λ x y. xor-mod x y 1)
+
+odd-and : (x y : ℕ) → eqb (bitAnd x y % 2) 1 ≡ (eqb (x % 2) 1 && eqb (y % 2) 1)
+odd-and = of-lowest bitAnd _&&_ and-bits (λ x y. and-mod x y 1)
+
+odd-bit : (p : Bool) → eqb (bit p % 2) 1 ≡ p
+odd-bit true = refl
+odd-bit false = refl
+
+-- The machine's gate, of numbers whose lowest bits are the gate's two.
+pub gate-low : (g : Gate) (x y : ℕ)
+    → eqb (bitXor (bitAnd (bitXor x (bit (g .0))) (bitXor y (bit (g .1)))) (bit (g .2)) % 2) 1 ≡ gateMark g (eqb (x % 2) 1) (eqb (y % 2) 1)
+unfolding gateMark
+gate-low g x y =
+    rw (
+      odd-xor (bitAnd (bitXor x (bit (g .0))) (bitXor y (bit (g .1)))) (bit (g .2)),
+      odd-and (bitXor x (bit (g .0))) (bitXor y (bit (g .1))),
+      odd-xor x (bit (g .0)),
+      odd-xor y (bit (g .1)),
+      odd-bit (g .0),
+      odd-bit (g .1),
+      odd-bit (g .2),
+    )

@@ -5,7 +5,7 @@
 -- Assumes nothing.
 use Prim.Native.Nat.{ℕ, suc}
 use mathlib.Core.Path.{_≡_}
-use mathlib.Core.Bool.{Bool, true, false, cond, not, _&&_, _||_}
+use mathlib.Core.Bool.{Bool, true, false, cond, not, xor, _&&_, _||_}
 use mathlib.Core.List.{List}
 use mathlib.Core.Option.{Option, some}
 use lib.Dec.{eqb}
@@ -15,6 +15,7 @@ use Rattle.meaning.specs.Marks.{at, anyBelow, allBelow, backward, forward}
 use Rattle.evaluate.specs.Links.{leads}
 use Rattle.evaluate.specs.declared.ahead.Look.{Look}
 use Rattle.evaluate.specs.declared.ahead.Look.the-variants.{Any, Until, Every}
+use Rattle.evaluate.specs.declared.local.Gate.{Gate}
 
 -- Kinds 1 to 5 at an element: `label` is the entry's, `own` the element's, a and b its bits.
 unfoldable pub localMark : Kind → (label own : ℕ) (a b : Bool) → Bool
@@ -33,6 +34,10 @@ localMark up label own a b = false
 localMark right label own a b = false
 localMark left label own a b = false
 localMark everyChild label own a b = false
+
+-- What a gate makes of two bits: their and, where the gate says so of each bit inverted, and inverted itself.
+unfoldable pub gateMark : Gate → (x y : Bool) → Bool
+gateMark g x y = xor (xor x (g .0) && xor y (g .1)) (g .2)
 
 -- ---- passes from the first element on
 

@@ -44,7 +44,7 @@ fn given_mark(look: Look, a: bool, own: bool) -> bool
 
 // The word of an element, with its mark where the gathered bit was.
 fn own_word(look: Look, a: usize, b: usize, i: usize, child: bool, w: u64) -> u64
-    requires { ⌜ i < 64 ⌝ }
+    requires { ⌜ (a < 64) × (b < 64) × (i < 64) ⌝ }
     ensures { λ r. ⌜ r ≡ bit (ownStep look (bitAt w a) (bitAt w b) (bitAt w i) child) * 2 ^ i + w % 2 ^ i ⌝ }
 {
     with_bit(
@@ -56,7 +56,7 @@ fn own_word(look: Look, a: usize, b: usize, i: usize, child: bool, w: u64) -> u6
 
 // The word v with what the element of the word w gives, if its column leads on.
 fn given_word(look: Look, a: usize, i: usize, there: bool, w: u64, v: u64) -> u64
-    requires { ⌜ i < 64 ⌝ }
+    requires { ⌜ (a < 64) × (i < 64) ⌝ }
     ensures { λ r. ⌜ r ≡ bit (bitAt v i || (there && givenStep look (bitAt w a) (bitAt w i))) * 2 ^ i + v % 2 ^ i ⌝ }
 {
     with_bit(

@@ -10,11 +10,12 @@ pub(crate) fn wide(x: u16) -> usize
     x as usize
 }
 
-// Bit a of a word; there is none from 64 on.
+// Bit a of a word.
 pub(crate) fn bit_at(w: u64, a: usize) -> bool
+    requires { ⌜ a < 64 ⌝ }
     ensures { λ r. ⌜ r ≡ bitAt w a ⌝ }
 {
-    if a < 64 { (w >> a) % 2 == 1 } else { false }
+    (w >> a) % 2 == 1
 }
 
 // The bits below i of a word, and bit i set or not.
@@ -23,4 +24,12 @@ pub(crate) fn with_bit(w: u64, i: usize, on: bool) -> u64
     ensures { λ r. ⌜ r ≡ bit on * 2 ^ i + w % 2 ^ i ⌝ }
 {
     (w & ((1 << i) - 1)) | ((on as u64) << i)
+}
+
+// The same for a word that has no other bits, and so needs no mask.
+pub(crate) fn put_bit(w: u64, i: usize, on: bool) -> u64
+    requires { ⌜ (i < 64) × (w < 2 ^ i) ⌝ }
+    ensures { λ r. ⌜ r ≡ bit on * 2 ^ i + w ⌝ }
+{
+    w | ((on as u64) << i)
 }
