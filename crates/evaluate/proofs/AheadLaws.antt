@@ -10,12 +10,12 @@ use mathlib.Core.List.{List}
 use mathlib.Core.Logic.{⊎-elim}
 use mathlib.Core.Option.{Option, none, some}
 use borrow.Author.Tests.{lt-ltb, le-ltb, eq-eqb, ne-eqb}
+use lib.Bits.{bitOr}
 use lib.Dec.{ltb, eqb}
 use lib.ListN.{length, getD, set, List·getD-eq-default}
 use Rattle.grammar.proofs.Tells.{told-same, true-iff, eqb-told, and-told}
 use Rattle.meaning.specs.Links.{At}
 use Rattle.meaning.specs.Marks.{at, anyBelow, bit, bitAt}
-use Rattle.meaning.proofs.Words.{bit-top, bit-under}
 use Rattle.meaning.proofs.Ways.{at-iff}
 use Rattle.meaning.proofs.Tests.{at-told, any-told, bool-told}
 use Rattle.evaluate.specs.Links.{leads, leadsTo}
@@ -24,7 +24,7 @@ use Rattle.evaluate.specs.Steps.{ownStep, givenStep, aheadMark, Nearest}
 use Rattle.evaluate.specs.declared.ahead.Look.{Look}
 use Rattle.evaluate.specs.declared.ahead.Look.the-variants.{Any, Until, Every}
 use Rattle.evaluate.proofs.LinkLaws.{getD-any, leads-at, leads-down, leads-number, number-leads, leads-finds}
-use Rattle.evaluate.proofs.PassLaws.{at-put, passed-start, passed-same, passed-bit, passed-under, passed-rest, passed-set}
+use Rattle.evaluate.proofs.PassLaws.{at-put, passed-start, passed-same, passed-bit, passed-under, passed-whole, passed-join, passed-set}
 use Rattle.evaluate.proofs.StepLaws.{at-leads, ahead-own, anyFrom, anyFrom-end, anyFrom-next, anyFrom-all}
 
 or-false : (x : Bool) → (x || false) ≡ x
@@ -151,25 +151,31 @@ module _ (look : Look) (f before : List ℕ) (a b : ℕ) where
       soon : (s : ℕ) → s < t → at-put (midst (suc t)) t own s ≡ anyFrom (length f) (gives-to s) (suc t)
       soon s h = rw (ne-eqb s t (λ e. omega arith), lt-ltb s (suc t) (omega arith))
 
-      given-is : givenStep look (bitAt word a) (bitAt word i) ≡ gives t
-      given-is =
-          rw (passed-rest room (mid .passed) t l, bit-under i a own (getD before t 0) la, bit-top i own (getD before t 0) (room .small t l), own-is)
+      given-is : givenStep look (bitAt w a) own ≡ gives t
+      given-is = ap₂ (λ (x y : Bool). givenStep look x y) (passed-under room (mid .passed) t l a la) own-is
+
+      -- Where one mark is enough, what has been gathered is the mark.
+      pub own-kept : look ≡ Any → w ≡ word
+      own-kept e = rw e (passed-whole room (mid .passed) t l)
 
       module _ (near : p ≤ t) where
         abbrev v : ℕ
         v = getD after₁ p 0
 
         abbrev on : Bool
-        on = bitAt v i || (ltb p t && givenStep look (bitAt word a) (bitAt word i))
+        on = ltb p t && givenStep look (bitAt w a) own
 
         -- Giving to the element that the column leads to gathers there, and nowhere else.
         led : (s : ℕ) → gives-to s t ≡ ((ltb p t && eqb p s) && gives t)
         led s = rw (leads-at f t l, at-leads t p (λ u. eqb u s))
 
-        gathered : (s : ℕ) → at-put (at-put (midst (suc t)) t own) p on s ≡ (at-put (midst (suc t)) t own s || gives-to s t)
+        abbrev was : ℕ → Bool
+        was = at-put (midst (suc t)) t own
+
+        gathered : (s : ℕ) → at-put was p (was p || on) s ≡ (was s || gives-to s t)
         gathered s =
             elim (ℕ-discrete s p) [
-              | yes e ↦ rw (e, led p, eq-eqb p p refl, and-true, passed-bit room passed₁ p (omega arith), given-is)
+              | yes e ↦ rw (e, led p, eq-eqb p p refl, and-true, given-is)
               | no ne ↦ rw (ne-eqb s p ne, led s, ne-eqb p s (λ e. ne (sym e)), and-false) (sym (or-false _))
             ]
 
@@ -188,12 +194,12 @@ module _ (look : Look) (f before : List ℕ) (a b : ℕ) where
             ]
 
         -- One turn.
-        pub ahead-turn : AheadMid i (set after₁ p (bit on * 2 ^ i + v % 2 ^ i)) p t
+        pub ahead-turn : AheadMid i (set after₁ p (bitOr v (bit on * 2 ^ i))) p t
         ahead-turn =
             record {
               within = omega arith;
               next-is = getD-any f t 0 (length f) l;
-              passed = passed-same room (λ s h. gathered s ∙ turned s) (passed-set room passed₁ p (omega arith) on);
+              passed = passed-same room (λ s h. gathered s ∙ turned s) (passed-join room passed₁ p (omega arith) on);
             }
 
   -- At the end every element has its mark.

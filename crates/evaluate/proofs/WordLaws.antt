@@ -1,11 +1,11 @@
 -- The machine's masks and shifts as numbers: bit i put above the bits below it, and gates. Assumes nothing.
 use Prim.Native.Nat.{ℕ, zero, suc, _+_, _*_, _^_, _%_, _-_, _≤_, _<_}
-use native.Mathlib.Nat.{mod-lt, one-mul}
+use native.Mathlib.Nat.{mod-lt, one-mul, add-zero}
 use native.Mathlib.Omega.{arith}
-use mathlib.Core.Path.{_≡_, refl, ap, _∙_}
-use mathlib.Core.Bool.{Bool, true, false, xor, _&&_}
+use mathlib.Core.Path.{_≡_, refl, sym, ap, _∙_}
+use mathlib.Core.Bool.{Bool, true, false, xor, _&&_, _||_}
 use lib.Dec.{eqb}
-use lib.Bits.{bitAnd, bitOr, bitXor, and-mask, or-shifted-r, and-mod, xor-mod}
+use lib.Bits.{bitAnd, bitOr, bitXor, and-mask, or-shifted-r, or-block, or-zero-r, and-mod, xor-mod}
 use lib.Pow.{pow-pos, shl-exact}
 use Rattle.meaning.specs.Marks.{bit}
 use Rattle.evaluate.specs.Steps.{gateMark}
@@ -28,9 +28,21 @@ masked-bit i w on l =
     rw (one-shifted i l .1, and-mask w i, shl-exact 1 i 64 (bit-lt on) (omega arith))
     (or-shifted-r (bit on) i (w % 2 ^ i) (mod-lt w (pow-pos i)))
 
--- The machine's `w | ((on as u64) << i)`, of a word with bits below i only.
-pub joined-bit : (i w : ℕ) (on : Bool) → i < 64 → w < 2 ^ i → bitOr w ((bit on * 2 ^ i) % 2 ^ 64) ≡ bit on * 2 ^ i + w
-joined-bit i w on l h = rw (shl-exact 1 i 64 (bit-lt on) (omega arith)) (or-shifted-r (bit on) i w h)
+-- The machine's `(on as u64) << i`.
+pub shifted-bit : (i : ℕ) (on : Bool) → i < 64 → (bit on * 2 ^ i) % 2 ^ 64 ≡ bit on * 2 ^ i
+shifted-bit i on l = shl-exact 1 i 64 (bit-lt on) (omega arith)
+
+or-bits : (p q : Bool) → bitOr (bit p) (bit q) ≡ bit (p || q)
+or-bits true true = refl
+or-bits true false = refl
+or-bits false true = refl
+or-bits false false = refl
+
+-- Bit i put where bit i may stand already.
+pub joined-bit : (i w : ℕ) (p q : Bool) → w < 2 ^ i → bitOr (bit p * 2 ^ i + w) (bit q * 2 ^ i) ≡ bit (p || q) * 2 ^ i + w
+joined-bit i w p q h =
+    ap (bitOr (bit p * 2 ^ i + w)) (sym (add-zero (bit q * 2 ^ i))) ∙ or-block i (bit p) (bit q) w 0 h (pow-pos i)
+    ∙ rw (or-bits p q, or-zero-r w)
 
 -- ---- gates
 

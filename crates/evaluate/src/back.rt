@@ -1,7 +1,8 @@
 // Kinds 7, 9, 11 and 13: what the element before, to which a column leads, has.
 ghost use mathlib.Core.Path.{_≡_};
 ghost use mathlib.Core.Bool.{_&&_};
-ghost use Prim.Native.Nat.{ℕ, _+_, _*_, _^_, _≤_, _<_};
+ghost use Prim.Native.Nat.{ℕ, _*_, _^_, _≤_, _<_};
+ghost use lib.Bits.{bitOr};
 ghost use lib.ListN.{length, getD};
 ghost use Rattle.meaning.specs.Marks.{bit, bitAt};
 ghost use Rattle.evaluate.specs.Links.{leads};
@@ -14,8 +15,8 @@ use crate::word::wide;
 // The word of an element, with the mark of entry i: `there` says that its column leads on, to an
 // element with the word v.
 fn back_word(until: bool, a: usize, b: usize, i: usize, there: bool, v: u64, w: u64) -> u64
-    requires { ⌜ (a < 64) × (b < 64) × (i < 64) × (w < 2 ^ i) ⌝ }
-    ensures { λ r. ⌜ r ≡ bit (backStep until (bitAt w a) (bitAt w b) (there && bitAt v a) (there && bitAt v i)) * 2 ^ i + w ⌝ }
+    requires { ⌜ (a < 64) × (b < 64) × (i < 64) ⌝ }
+    ensures { λ r. ⌜ r ≡ bitOr w (bit (backStep until (bitAt w a) (bitAt w b) (there && bitAt v a) (there && bitAt v i)) * 2 ^ i) ⌝ }
 {
     if until {
         put_bit(w, i, bit_at(w, b) | (bit_at(w, a) & (there & bit_at(v, i))))

@@ -1,6 +1,7 @@
 // Bits of a mark word.
 ghost use mathlib.Core.Path.{_≡_};
 ghost use Prim.Native.Nat.{_+_, _*_, _^_, _%_, _<_};
+ghost use lib.Bits.{bitOr};
 ghost use Rattle.meaning.specs.Marks.{bit, bitAt};
 
 // A number of a column, as an index.
@@ -26,10 +27,10 @@ pub(crate) fn with_bit(w: u64, i: usize, on: bool) -> u64
     (w & ((1 << i) - 1)) | ((on as u64) << i)
 }
 
-// The same for a word that has no other bits, and so needs no mask.
+// A word with bit i set too, or as it was: no mask is needed.
 pub(crate) fn put_bit(w: u64, i: usize, on: bool) -> u64
-    requires { ⌜ (i < 64) × (w < 2 ^ i) ⌝ }
-    ensures { λ r. ⌜ r ≡ bit on * 2 ^ i + w ⌝ }
+    requires { ⌜ i < 64 ⌝ }
+    ensures { λ r. ⌜ r ≡ bitOr w (bit on * 2 ^ i) ⌝ }
 {
     w | ((on as u64) << i)
 }

@@ -2,7 +2,7 @@
 use Prim.Native.Nat.{ℕ, _≤_, _<_, _-_}
 use mathlib.Core.Path.{_≡_}
 use lib.ListN.{length, length-set}
-use Rattle.evaluate.proofs.AheadLaws.{AheadMid, ahead-start, ahead-before, ahead-turn, ahead-end}
+use Rattle.evaluate.proofs.AheadLaws.{AheadMid, ahead-start, ahead-before, own-kept, ahead-turn, ahead-end}
 use borrow.Author.Needs.{needs}
 use native.Mathlib.Omega.{arith}
 use Rattle.evaluate.proofs.ahead.ahead_pass.Statement.{statement}
@@ -20,14 +20,24 @@ loop-holds c = ahead-start _ _ _ _ _ (c .before .before .pre .1 .0)
 sub-t : tie.Need-sub-t Inv-loop μ-loop
 sub-t c = omega arith
 
-mul-own-word : tie.Need-mul-own-word Inv-loop μ-loop
-mul-own-word c = omega arith
+mul-w : tie.Need-mul-w Inv-loop μ-loop
+mul-w c = omega arith
 
-slice-read-own-word : tie.Need-slice-read-own-word Inv-loop μ-loop
-slice-read-own-word c = omega arith
+slice-read-w : tie.Need-slice-read-w Inv-loop μ-loop
+slice-read-w c = omega arith
+
+own-at-requires : tie.Need-own-at-requires Inv-loop μ-loop
+own-at-requires c κs = omega arith
 
 own-word-requires : tie.Need-own-word-requires Inv-loop μ-loop
-own-word-requires c κs = omega arith
+own-word-requires c κs =
+    let l = c .before .before .before .loop in
+    let pre = c .before .before .before .before .before .before .pre in
+    let h : l .t - 1 < length (c .before .before .before .before .before .before .args .f .now) = omega arith in (
+      omega arith,
+      λ e. rw (c .own-at .ensures)
+          (own-kept _ _ _ _ _ (pre .1 .0) (pre .0 .0) (pre .0 .1) (pre .1 .1 .1) (l .t - 1) h (ahead-before _ _ _ _ _ (omega arith) (l .inv)) e),
+    )
 
 mul-marks : tie.Need-mul-marks Inv-loop μ-loop
 mul-marks c = omega arith
@@ -44,30 +54,33 @@ shared-slice-read-wide c = omega arith
 wide-requires : tie.Need-wide-requires Inv-loop μ-loop
 wide-requires c κs = search needs
 
-mul-given-word : tie.Need-mul-given-word Inv-loop μ-loop
-mul-given-word c = omega (arith, c .wide .ensures, c .before .before .before .before .before .before .before .before .pre .1 .1 .0 (c .before .before .before .before .before .loop .t - 1) (omega arith))
+given-at-requires : tie.Need-given-at-requires Inv-loop μ-loop
+given-at-requires c κs = omega arith
 
-slice-read-given-word : tie.Need-slice-read-given-word Inv-loop μ-loop
-slice-read-given-word c = simp length-set (omega (arith, c .before .wide .ensures, c .before .before .before .before .before .before .before .before .before .pre .1 .1 .0 (c .before .before .before .before .before .before .loop .t - 1) (omega arith)))
+mul-put-bit : tie.Need-mul-put-bit Inv-loop μ-loop
+mul-put-bit c = omega (arith, c .before .wide .ensures, c .before .before .before .before .before .before .before .before .before .before .pre .1 .1 .0 (c .before .before .before .before .before .before .before .loop .t - 1) (omega arith))
 
-given-word-requires : tie.Need-given-word-requires Inv-loop μ-loop
-given-word-requires c κs = omega arith
+slice-read-put-bit : tie.Need-slice-read-put-bit Inv-loop μ-loop
+slice-read-put-bit c = simp length-set (omega (arith, c .before .before .wide .ensures, c .before .before .before .before .before .before .before .before .before .before .before .pre .1 .1 .0 (c .before .before .before .before .before .before .before .before .loop .t - 1) (omega arith)))
+
+put-bit-requires : tie.Need-put-bit-requires Inv-loop μ-loop
+put-bit-requires c κs = omega arith
 
 mul-marks-2 : tie.Need-mul-marks-2 Inv-loop μ-loop
-mul-marks-2 c = omega (arith, c .before .before .wide .ensures, c .before .before .before .before .before .before .before .before .before .before .pre .1 .1 .0 (c .before .before .before .before .before .before .before .loop .t - 1) (omega arith))
+mul-marks-2 c = omega (arith, c .before .before .before .wide .ensures, c .before .before .before .before .before .before .before .before .before .before .before .before .pre .1 .1 .0 (c .before .before .before .before .before .before .before .before .before .loop .t - 1) (omega arith))
 
 slice-write-marks-2 : tie.Need-slice-write-marks-2 Inv-loop μ-loop
-slice-write-marks-2 c = simp length-set (omega (arith, c .before .before .wide .ensures, c .before .before .before .before .before .before .before .before .before .before .pre .1 .1 .0 (c .before .before .before .before .before .before .before .loop .t - 1) (omega arith)))
+slice-write-marks-2 c = simp length-set (omega (arith, c .before .before .before .wide .ensures, c .before .before .before .before .before .before .before .before .before .before .before .before .pre .1 .1 .0 (c .before .before .before .before .before .before .before .before .before .loop .t - 1) (omega arith)))
 
 loop-less : tie.Need-loop-less Inv-loop μ-loop
 loop-less c = omega arith
 
 loop-again : tie.Need-loop-again Inv-loop μ-loop
 loop-again c =
-    let l = c .before .before .before .before .before .before .before .loop in
-    let pre = c .before .before .before .before .before .before .before .before .before .before .pre in
-    let h : l .t - 1 < length (c .before .before .before .before .before .before .before .before .before .before .args .f .now) = omega arith in
-    rw (c .given-word .ensures, c .before .before .before .before .own-word .ensures, c .before .before .wide .ensures)
+    let l = c .before .before .before .before .before .before .before .before .before .loop in
+    let pre = c .before .before .before .before .before .before .before .before .before .before .before .before .pre in
+    let h : l .t - 1 < length (c .before .before .before .before .before .before .before .before .before .before .before .before .args .f .now) = omega arith in
+    rw (c .put-bit .ensures, c .before .before .given-at .ensures, c .before .before .before .before .before .own-word .ensures, c .before .before .before .before .before .before .own-at .ensures, c .before .before .before .wide .ensures)
     (ahead-turn _ _ _ _ _ (pre .1 .0) (pre .0 .0) (pre .0 .1) (pre .1 .1 .1) (l .t - 1) h (ahead-before _ _ _ _ _ (omega arith) (l .inv)) (pre .1 .1 .0 (l .t - 1) h))
 
 same-length : tie.Need-same-length Inv-loop μ-loop
@@ -86,17 +99,19 @@ ahead-pass-spec =
     μ-loop
     loop-holds
     sub-t
-    mul-own-word
-    slice-read-own-word
+    mul-w
+    slice-read-w
+    own-at-requires
     own-word-requires
     mul-marks
     slice-write-marks
     mul-wide
     shared-slice-read-wide
     wide-requires
-    mul-given-word
-    slice-read-given-word
-    given-word-requires
+    given-at-requires
+    mul-put-bit
+    slice-read-put-bit
+    put-bit-requires
     mul-marks-2
     slice-write-marks-2
     loop-less

@@ -4,7 +4,7 @@ use lib.ListN.{length, getD}
 use Rattle.evaluate.specs.Links.{leads}
 use Rattle.evaluate.specs.Pass.{Passed, bitsOf}
 use Rattle.evaluate.specs.Steps.{backMark}
-use Rattle.evaluate.proofs.PassLaws.{before-only, ascent-start, ascent-small, ascent-turn, ascent-end}
+use Rattle.evaluate.proofs.PassLaws.{before-only, ascent-start, ascent-turn, ascent-end}
 use Rattle.evaluate.proofs.StepLaws.{back-turn}
 use borrow.Author.Needs.{needs}
 use native.Mathlib.Omega.{arith}
@@ -43,10 +43,7 @@ slice-read-back-word-2 : tie.Need-slice-read-back-word-2 Inv-loop μ-loop
 slice-read-back-word-2 c = omega arith
 
 back-word-requires : tie.Need-back-word-requires Inv-loop μ-loop
-back-word-requires c κs =
-    let l = c .before .before .before .before .before .loop in
-    let pre = c .before .before .before .before .before .before .before .before .pre in
-    (omega arith, omega arith, omega arith, ascent-small (pre .1 .0) _ (l .s) (c .before .before .before .before .loop-test .taken) (l .inv .1))
+back-word-requires c κs = omega arith
 
 mul-marks : tie.Need-mul-marks Inv-loop μ-loop
 mul-marks c = omega arith

@@ -2,7 +2,7 @@
 use Prim.Native.Nat.{ℕ, _≤_, _<_, _-_}
 use Rattle.evaluate.specs.Pass.{Passed, bitsOf}
 use Rattle.evaluate.specs.Steps.{gateMark}
-use Rattle.evaluate.proofs.PassLaws.{before-only, ascent-start, ascent-small, ascent-turn, ascent-end}
+use Rattle.evaluate.proofs.PassLaws.{before-only, ascent-start, ascent-turn, ascent-end}
 use Rattle.evaluate.proofs.StepLaws.{gate-turn}
 use borrow.Author.Needs.{needs}
 use native.Mathlib.Omega.{arith}
@@ -29,10 +29,7 @@ gate-mark-requires : tie.Need-gate-mark-requires Inv-loop μ-loop
 gate-mark-requires c κs = search needs
 
 put-bit-requires : tie.Need-put-bit-requires Inv-loop μ-loop
-put-bit-requires c κs =
-    let l = c .before .before .before .loop in
-    let room = c .before .before .before .before .before .pre .1 in
-    (room .top, ascent-small room _ (l .s) (c .before .before .loop-test .taken) (l .inv .1))
+put-bit-requires c κs = search needs
 
 mul-marks : tie.Need-mul-marks Inv-loop μ-loop
 mul-marks c = omega arith

@@ -4,7 +4,7 @@ use mathlib.Core.Path.{refl}
 use lib.Dec.{eqb}
 use lib.ListN.{length, getD}
 use Rattle.evaluate.specs.Pass.{Passed}
-use Rattle.evaluate.proofs.PassLaws.{before-only, ascent-start, ascent-small, ascent-turn, ascent-end}
+use Rattle.evaluate.proofs.PassLaws.{before-only, ascent-start, ascent-turn, ascent-end}
 use borrow.Author.Needs.{needs}
 use native.Mathlib.Omega.{arith}
 use Rattle.evaluate.proofs.local.label_pass.Statement.{statement}
@@ -36,10 +36,7 @@ slice-read-put-bit : tie.Need-slice-read-put-bit Inv-loop μ-loop
 slice-read-put-bit c = omega arith
 
 put-bit-requires : tie.Need-put-bit-requires Inv-loop μ-loop
-put-bit-requires c κs =
-    let l = c .before .before .before .before .loop in
-    let room = c .before .before .before .before .before .before .before .pre in
-    (room .top, ascent-small room _ (l .s) (c .before .before .before .loop-test .taken) (l .inv .1))
+put-bit-requires c κs = search needs
 
 mul-marks : tie.Need-mul-marks Inv-loop μ-loop
 mul-marks c = omega arith
