@@ -95,10 +95,6 @@ module _ {n i : ℕ} {before : List ℕ} (room : Room n i before) where
     pub passed-rest : getD after s 0 % 2 ^ i ≡ getD before s 0
     passed-rest = rw (r .stored .put s l) (low (bit (m s)) i (room .small s l))
 
-    -- So a word is its mark above its other bits.
-    pub passed-whole : getD after s 0 ≡ bit (bitAt (getD after s 0) i) * 2 ^ i + getD after s 0 % 2 ^ i
-    passed-whole = rw (passed-bit, passed-rest) (r .stored .put s l)
-
     -- One element's mark joined by another.
     pub passed-join : (on : Bool) → Passed n i (at-put m s (m s || on)) before (set after s (bitOr (getD after s 0) (bit on * 2 ^ i)))
     passed-join on =

@@ -1,10 +1,10 @@
-// Kinds 6, 8, 10, 12 and 14: what the elements after, whose column leads here, have given. Until an
-// element's own turn, bit i of its word says whether one of them gave.
+// Kinds 6, 8, 10, 12 and 14: what the elements after, whose column leads here, have given. Bit i of an
+// element's word says whether one of them gave: in a pass by turns only until the element's own.
 ghost use mathlib.Core.Path.{_≡_};
 ghost use mathlib.Core.Bool.{_&&_};
-ghost use Prim.Native.Nat.{ℕ, _+_, _*_, _^_, _%_, _≤_, _<_};
+ghost use Prim.Native.Nat.{ℕ, _≤_, _<_};
 ghost use lib.ListN.{length, getD};
-ghost use Rattle.meaning.specs.Marks.{bit, bitAt};
+ghost use Rattle.meaning.specs.Marks.{bitAt};
 ghost use Rattle.evaluate.specs.Links.{leads};
 ghost use Rattle.evaluate.specs.Pass.{Passed, Room, bitsOf};
 ghost use Rattle.evaluate.specs.declared.ahead.Look.the-variants.{Any};
@@ -60,22 +60,9 @@ fn given_at(look: Look, a: usize, there: bool, own: bool, w: u64) -> bool
     there & given_mark(look, bit_at(w, a), own)
 }
 
-// The word of an element, with its mark where the gathered bit was. For kinds 6 and 8 that bit is the
-// mark, and nothing is stored.
-fn own_word(look: Look, i: usize, own: bool, w: u64) -> u64
-    requires { ⌜ i < 64 ⌝ }
-    requires { ⌜ (look ≡ Any → w ≡ bit own * 2 ^ i + w % 2 ^ i) ⌝ }
-    ensures { λ r. ⌜ r ≡ bit own * 2 ^ i + w % 2 ^ i ⌝ }
-{
-    match look {
-        Look::Any => w,
-        _ => with_bit(w, i, own),
-    }
-}
-
-// Entry i at every element, from the last on: each has gathered from all that lead to it before its
-// own turn. `next` is where the element after leads.
-pub(crate) fn ahead_pass(look: Look, a: usize, b: usize, i: usize, f: &[u16], marks: &mut [u64])
+// Entry i at every element, by turns from the last on: each has gathered from all that lead to it before
+// its own turn. `next` is where the element after leads.
+fn turn_pass(look: Look, a: usize, b: usize, i: usize, f: &[u16], marks: &mut [u64])
     requires { ⌜ (a < i) × (b < i) ⌝ }
     requires { ⌜ Room (length (now f)) i (now marks) ⌝ }
     requires { ⌜ ((s : ℕ) → s < length (now f) → getD (now f) s 0 ≤ s) ⌝ }
@@ -88,9 +75,40 @@ pub(crate) fn ahead_pass(look: Look, a: usize, b: usize, i: usize, f: &[u16], ma
         t -= 1;
         let w = marks[t];
         let own = own_at(look, a, b, i, next == t, w);
-        marks[t] = own_word(look, i, own, w);
+        marks[t] = with_bit(w, i, own);
         next = wide(f[t]);
         let given = given_at(look, a, next < t, own, w);
         marks[next] = put_bit(marks[next], i, given);
+    }
+}
+
+// Entry i at every element, where each gives a bit that stands there before the pass, and its mark is what
+// it has gathered. So there are no turns: from the first on, no element reads what was just stored.
+fn gather_pass(a: usize, i: usize, f: &[u16], marks: &mut [u64])
+    requires { ⌜ a < i ⌝ }
+    requires { ⌜ Room (length (now f)) i (now marks) ⌝ }
+    requires { ⌜ ((s : ℕ) → s < length (now f) → getD (now f) s 0 ≤ s) ⌝ }
+    ensures { λ _. ⌜ Passed (length (now (f .entry))) i (aheadMark Any (length (now (f .entry))) (leads (now (f .entry))) (bitsOf (now (marks .entry)) a) (bitsOf (now (marks .entry)) a)) (now (marks .entry)) (now (marks .exit)) ⌝ }
+{
+    let mut s: usize = 0;
+    while s < f.len() {
+        let p = wide(f[s]);
+        let given = (p < s) & bit_at(marks[s], a);
+        marks[p] = put_bit(marks[p], i, given);
+        s += 1;
+    }
+}
+
+// Entry i at every element, by turns where they are needed.
+pub(crate) fn ahead_pass(look: Look, a: usize, b: usize, i: usize, f: &[u16], marks: &mut [u64])
+    requires { ⌜ (a < i) × (b < i) ⌝ }
+    requires { ⌜ Room (length (now f)) i (now marks) ⌝ }
+    requires { ⌜ ((s : ℕ) → s < length (now f) → getD (now f) s 0 ≤ s) ⌝ }
+    requires { ⌜ Nearest look (now f) ⌝ }
+    ensures { λ _. ⌜ Passed (length (now (f .entry))) i (aheadMark look (length (now (f .entry))) (leads (now (f .entry))) (bitsOf (now (marks .entry)) a) (bitsOf (now (marks .entry)) b)) (now (marks .entry)) (now (marks .exit)) ⌝ }
+{
+    match look {
+        Look::Any => gather_pass(a, i, f, marks),
+        _ => turn_pass(look, a, b, i, f, marks),
     }
 }
