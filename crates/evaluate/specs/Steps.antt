@@ -50,7 +50,7 @@ unfoldable pub backMark : (until : Bool) (F : ℕ → Option ℕ) (a b : ℕ →
 backMark true F a b s = backward F a b s
 backMark false F a b s = at (F s) a
 
--- ---- passes from the last element on
+-- ---- passes for what elements after have
 
 -- Kinds 6 and 8 (Any), 10 and 12 (Until), 14 (Every) at an element: a and b are its bits, `gathered` says that an element that leads
 -- here has given, `child` that one leads here.
