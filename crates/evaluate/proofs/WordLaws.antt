@@ -1,11 +1,11 @@
--- The machine's masks and shifts as numbers: bit i put above the bits below it, and gates. Assumes nothing.
+-- The machine's masks and shifts as numbers: bit i put above the bits below it, and the lowest bits of what the machine computes. Assumes nothing.
 use Prim.Native.Nat.{ℕ, zero, suc, _+_, _*_, _^_, _%_, _-_, _≤_, _<_}
 use native.Mathlib.Nat.{mod-lt, one-mul, add-zero}
 use native.Mathlib.Omega.{arith}
 use mathlib.Core.Path.{_≡_, refl, sym, ap, _∙_}
 use mathlib.Core.Bool.{Bool, true, false, xor, _&&_, _||_}
 use lib.Dec.{eqb}
-use lib.Bits.{bitAnd, bitOr, bitXor, and-mask, or-shifted-r, or-block, or-zero-r, and-mod, xor-mod}
+use lib.Bits.{bitAnd, bitOr, bitXor, and-mask, or-shifted-r, or-block, or-zero-r, and-mod, or-mod, xor-mod}
 use lib.Pow.{pow-pos, shl-exact}
 use Rattle.meaning.specs.Marks.{bit}
 use Rattle.evaluate.specs.Steps.{gateMark}
@@ -44,7 +44,7 @@ joined-bit i w p q h =
     ap (bitOr (bit p * 2 ^ i + w)) (sym (add-zero (bit q * 2 ^ i))) ∙ or-block i (bit p) (bit q) w 0 h (pow-pos i)
     ∙ rw (or-bits p q, or-zero-r w)
 
--- ---- gates
+-- ---- lowest bits
 
 -- An operation that is h on bits, and goes through to lowest bits, is h on lowest bits.
 module _ (f : ℕ → ℕ → ℕ) (h : Bool → Bool → Bool) (bits : (p q : Bool) → eqb (f (bit p) (bit q)) 1 ≡ h p q)
@@ -75,6 +75,15 @@ and-bits true false = refl
 and-bits false true = refl
 and-bits false false = refl
 
+either-bits : (p q : Bool) → eqb (bitOr (bit p) (bit q)) 1 ≡ (p || q)
+either-bits true true = refl
+either-bits true false = refl
+either-bits false true = refl
+either-bits false false = refl
+
+odd-or : (x y : ℕ) → eqb (bitOr x y % 2) 1 ≡ (eqb (x % 2) 1 || eqb (y % 2) 1)
+odd-or = of-lowest bitOr _||_ either-bits (λ x y. or-mod x y 1)
+
 odd-xor : (x y : ℕ) → eqb (bitXor x y % 2) 1 ≡ xor (eqb (x % 2) 1) (eqb (y % 2) 1)
 odd-xor = of-lowest bitXor xor xor-bits (λ x y. xor-mod x y 1)
 
@@ -84,6 +93,14 @@ odd-and = of-lowest bitAnd _&&_ and-bits (λ x y. and-mod x y 1)
 odd-bit : (p : Bool) → eqb (bit p % 2) 1 ≡ p
 odd-bit true = refl
 odd-bit false = refl
+
+-- A lowest bit where p; and what the passes from the first element on ask until a mark.
+pub low-where : (p : Bool) (x : ℕ) → eqb (bitAnd (bit p) x % 2) 1 ≡ (p && eqb (x % 2) 1)
+low-where p x = rw (odd-and (bit p) x, odd-bit p)
+
+pub low-until : (p : Bool) (x y z : ℕ)
+    → eqb (bitOr x (bitAnd y (bitAnd (bit p) z)) % 2) 1 ≡ (eqb (x % 2) 1 || (eqb (y % 2) 1 && (p && eqb (z % 2) 1)))
+low-until p x y z = rw (odd-or x (bitAnd y (bitAnd (bit p) z)), odd-and y (bitAnd (bit p) z), low-where p z)
 
 -- The machine's gate, of numbers whose lowest bits are the gate's two.
 pub gate-low : (g : Gate) (x y : ℕ)

@@ -10,6 +10,7 @@ ghost use Rattle.evaluate.specs.Pass.{Passed, Room, bitsOf};
 ghost use Rattle.evaluate.specs.declared.ahead.Look.the-variants.{Any};
 ghost use Rattle.evaluate.specs.Steps.{ownStep, givenStep, aheadMark, Nearest};
 use crate::word::bit_at;
+use crate::word::bit_where;
 use crate::word::put_bit;
 use crate::word::wide;
 use crate::word::with_bit;
@@ -93,7 +94,7 @@ fn gather_pass(a: usize, i: usize, f: &[u16], marks: &mut [u64])
     let mut s: usize = 0;
     while s < f.len() {
         let p = wide(f[s]);
-        let given = (p < s) & bit_at(marks[s], a);
+        let given = bit_where(marks[s], a, p < s);
         marks[p] = put_bit(marks[p], i, given);
         s += 1;
     }

@@ -26,14 +26,14 @@ shared-slice-read-wide c = omega arith
 wide-requires : tie.Need-wide-requires Inv-loop μ-loop
 wide-requires c κs = search needs
 
-mul-bit-at : tie.Need-mul-bit-at Inv-loop μ-loop
-mul-bit-at c = omega arith
+mul-bit-where : tie.Need-mul-bit-where Inv-loop μ-loop
+mul-bit-where c = omega arith
 
-slice-read-bit-at : tie.Need-slice-read-bit-at Inv-loop μ-loop
-slice-read-bit-at c = omega arith
+slice-read-bit-where : tie.Need-slice-read-bit-where Inv-loop μ-loop
+slice-read-bit-where c = omega arith
 
-bit-at-requires : tie.Need-bit-at-requires Inv-loop μ-loop
-bit-at-requires c κs = omega arith
+bit-where-requires : tie.Need-bit-where-requires Inv-loop μ-loop
+bit-where-requires c κs = omega arith
 
 mul-put-bit : tie.Need-mul-put-bit Inv-loop μ-loop
 mul-put-bit c = omega (arith, c .before .before .wide .ensures, c .before .before .before .before .before .before .before .before .pre .1 .1 (c .before .before .before .before .before .loop .s) (c .before .before .before .before .loop-test .taken))
@@ -62,7 +62,7 @@ loop-again c =
     let pre = c .before .before .before .before .before .before .before .before .before .before .pre in
     let t = c .before .before .before .before .before .before .loop-test .taken in (
       omega arith,
-      rw (c .put-bit .ensures, c .before .before .bit-at .ensures, c .before .before .before .before .wide .ensures)
+      rw (c .put-bit .ensures, c .before .before .bit-where .ensures, c .before .before .before .before .wide .ensures)
           (gather-turn _ _ _ (pre .1 .0) (pre .0) (l .s) t (pre .1 .1 (l .s) t) (l .inv .1)),
     )
 
@@ -82,9 +82,9 @@ gather-pass-spec =
     mul-wide
     shared-slice-read-wide
     wide-requires
-    mul-bit-at
-    slice-read-bit-at
-    bit-at-requires
+    mul-bit-where
+    slice-read-bit-where
+    bit-where-requires
     mul-put-bit
     slice-read-put-bit
     put-bit-requires
