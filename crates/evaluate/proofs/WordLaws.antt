@@ -5,7 +5,7 @@ use native.Mathlib.Omega.{arith}
 use mathlib.Core.Path.{_≡_, refl, sym, ap, _∙_}
 use mathlib.Core.Bool.{Bool, true, false, xor, _&&_, _||_}
 use lib.Dec.{eqb}
-use lib.Bits.{bitAnd, bitOr, bitXor, and-mask, or-shifted-r, or-block, or-zero-r, and-mod, or-mod, xor-mod}
+use lib.Bits.{bitAnd, bitOr, bitXor, and-comm, and-zero-l, and-mask, or-shifted-r, or-block, or-zero-r, and-mod, or-mod, xor-mod}
 use lib.Pow.{pow-pos, shl-exact}
 use Rattle.meaning.specs.Marks.{bit}
 use Rattle.evaluate.specs.Steps.{gateMark}
@@ -94,13 +94,32 @@ odd-bit : (p : Bool) → eqb (bit p % 2) 1 ≡ p
 odd-bit true = refl
 odd-bit false = refl
 
--- A lowest bit where p; and what the passes from the first element on ask until a mark.
-pub low-where : (p : Bool) (x : ℕ) → eqb (bitAnd (bit p) x % 2) 1 ≡ (p && eqb (x % 2) 1)
-low-where p x = rw (odd-and (bit p) x, odd-bit p)
+two-bit : (q : ℕ) → q < 2 → q ≡ bit (eqb q 1)
+two-bit zero h = refl
+two-bit (suc zero) h = refl
+two-bit (suc (suc q)) h = absurd (omega arith)
+
+where-bit : (p : Bool) (x : ℕ) → bitAnd (bit p) x ≡ bit (p && eqb (x % 2) 1)
+where-bit true x = and-comm 1 x ∙ and-mask x 1 ∙ two-bit (x % 2) (mod-lt x (omega arith))
+where-bit false x = and-zero-l x
+
+-- A lowest bit where p, and what the passes from the first element on ask until a mark, as numbers below 2.
+pub low-where : (p : Bool) (x : ℕ) → (bitAnd (bit p) x ≡ bit (p && eqb (x % 2) 1)) × (bitAnd (bit p) x < 2)
+low-where p x = (where-bit p x, rw (where-bit p x) (bit-lt (p && eqb (x % 2) 1)))
 
 pub low-until : (p : Bool) (x y z : ℕ)
-    → eqb (bitOr x (bitAnd y (bitAnd (bit p) z)) % 2) 1 ≡ (eqb (x % 2) 1 || (eqb (y % 2) 1 && (p && eqb (z % 2) 1)))
-low-until p x y z = rw (odd-or x (bitAnd y (bitAnd (bit p) z)), odd-and y (bitAnd (bit p) z), low-where p z)
+    → (bitOr x (bitAnd y (bitAnd (bit p) z)) % 2 ≡ bit (eqb (x % 2) 1 || (eqb (y % 2) 1 && (p && eqb (z % 2) 1))))
+    × (bitOr x (bitAnd y (bitAnd (bit p) z)) % 2 < 2)
+low-until p x y z =
+    let h : bitOr x (bitAnd y (bitAnd (bit p) z)) % 2 < 2 = mod-lt (bitOr x (bitAnd y (bitAnd (bit p) z))) (omega arith) in (
+      two-bit (bitOr x (bitAnd y (bitAnd (bit p) z)) % 2) h
+          ∙ rw (odd-or x (bitAnd y (bitAnd (bit p) z)), odd-and y (bitAnd (bit p) z), where-bit p z, odd-bit (p && eqb (z % 2) 1)),
+      h,
+    )
+
+-- The machine's `on << i`, of a number below 2.
+pub shifted-number : (i n : ℕ) → i < 64 → n < 2 → (n * 2 ^ i) % 2 ^ 64 ≡ n * 2 ^ i
+shifted-number i n l h = shl-exact 1 i 64 (omega arith) (omega arith)
 
 -- The machine's gate, of numbers whose lowest bits are the gate's two.
 pub gate-low : (g : Gate) (x y : ℕ)

@@ -12,6 +12,7 @@ ghost use Rattle.evaluate.specs.Steps.{ownStep, givenStep, aheadMark, Ne
 use crate::word::bit_at;
 use crate::word::bit_where;
 use crate::word::put_bit;
+use crate::word::put_number;
 use crate::word::wide;
 use crate::word::with_bit;
 
@@ -95,7 +96,7 @@ fn gather_pass(a: usize, i: usize, f: &[u16], marks: &mut [u64])
     while s < f.len() {
         let p = wide(f[s]);
         let given = bit_where(marks[s], a, p < s);
-        marks[p] = put_bit(marks[p], i, given);
+        marks[p] = put_number(marks[p], i, given);
         s += 1;
     }
 }

@@ -9,15 +9,15 @@ ghost use Rattle.evaluate.specs.Links.{leads};
 ghost use Rattle.evaluate.specs.Pass.{Passed, Room, bitsOf};
 ghost use Rattle.evaluate.specs.Steps.{backStep, backMark};
 use crate::word::bit_where;
-use crate::word::put_bit;
+use crate::word::put_number;
 use crate::word::wide;
 
-// Whether the word w has bit b, or bit a and, where `there`, the word v bit i.
-fn until_mark(a: usize, b: usize, i: usize, there: bool, v: u64, w: u64) -> bool
+// As a number, whether the word w has bit b, or bit a and, where `there`, the word v bit i.
+fn until_mark(a: usize, b: usize, i: usize, there: bool, v: u64, w: u64) -> u64
     requires { ⌜ (a < 64) × (b < 64) × (i < 64) ⌝ }
-    ensures { λ r. ⌜ r ≡ (bitAt w b || (bitAt w a && (there && bitAt v i))) ⌝ }
+    ensures { λ r. ⌜ (r ≡ bit (bitAt w b || (bitAt w a && (there && bitAt v i)))) × (r < 2) ⌝ }
 {
-    ((w >> b) | ((w >> a) & ((there as u64) & (v >> i)))) % 2 == 1
+    ((w >> b) | ((w >> a) & ((there as u64) & (v >> i)))) % 2
 }
 
 // The word of an element, with the mark of entry i: `there` says that its column leads on, to an
@@ -27,9 +27,9 @@ fn back_word(until: bool, a: usize, b: usize, i: usize, there: bool, v: u64, w: 
     ensures { λ r. ⌜ r ≡ bitOr w (bit (backStep until (bitAt w a) (bitAt w b) (there && bitAt v a) (there && bitAt v i)) * 2 ^ i) ⌝ }
 {
     if until {
-        put_bit(w, i, until_mark(a, b, i, there, v, w))
+        put_number(w, i, until_mark(a, b, i, there, v, w))
     } else {
-        put_bit(w, i, bit_where(v, a, there))
+        put_number(w, i, bit_where(v, a, there))
     }
 }
 

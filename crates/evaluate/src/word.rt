@@ -20,13 +20,13 @@ pub(crate) fn bit_at(w: u64, a: usize) -> bool
     (w >> a) % 2 == 1
 }
 
-// Bit a of a word, where `there`. Here and where a mark is made of several bits they stay numbers to the
-// end: an and of tests would wait, element by element, for the register that it shares.
-pub(crate) fn bit_where(w: u64, a: usize, there: bool) -> bool
+// Bit a of a word, where `there`, as a number. What is put into a word right away stays one: as a test it
+// goes through the low byte of a register, and each element waits for the one before.
+pub(crate) fn bit_where(w: u64, a: usize, there: bool) -> u64
     requires { ⌜ a < 64 ⌝ }
-    ensures { λ r. ⌜ r ≡ (there && bitAt w a) ⌝ }
+    ensures { λ r. ⌜ (r ≡ bit (there && bitAt w a)) × (r < 2) ⌝ }
 {
-    ((there as u64) & (w >> a)) % 2 == 1
+    (there as u64) & (w >> a)
 }
 
 // The bits below i of a word, and bit i set or not.
@@ -43,4 +43,12 @@ pub(crate) fn put_bit(w: u64, i: usize, on: bool) -> u64
     ensures { λ r. ⌜ r ≡ bitOr w (bit on * 2 ^ i) ⌝ }
 {
     w | ((on as u64) << i)
+}
+
+// The same of a bit that is a number.
+pub(crate) fn put_number(w: u64, i: usize, on: u64) -> u64
+    requires { ⌜ (i < 64) × (on < 2) ⌝ }
+    ensures { λ r. ⌜ r ≡ bitOr w (on * 2 ^ i) ⌝ }
+{
+    w | (on << i)
 }

@@ -35,14 +35,14 @@ slice-read-bit-where c = omega arith
 bit-where-requires : tie.Need-bit-where-requires Inv-loop μ-loop
 bit-where-requires c κs = omega arith
 
-mul-put-bit : tie.Need-mul-put-bit Inv-loop μ-loop
-mul-put-bit c = omega (arith, c .before .before .wide .ensures, c .before .before .before .before .before .before .before .before .pre .1 .1 (c .before .before .before .before .before .loop .s) (c .before .before .before .before .loop-test .taken))
+mul-put-number : tie.Need-mul-put-number Inv-loop μ-loop
+mul-put-number c = omega (arith, c .before .before .wide .ensures, c .before .before .before .before .before .before .before .before .pre .1 .1 (c .before .before .before .before .before .loop .s) (c .before .before .before .before .loop-test .taken))
 
-slice-read-put-bit : tie.Need-slice-read-put-bit Inv-loop μ-loop
-slice-read-put-bit c = omega (arith, c .before .before .before .wide .ensures, c .before .before .before .before .before .before .before .before .before .pre .1 .1 (c .before .before .before .before .before .before .loop .s) (c .before .before .before .before .before .loop-test .taken))
+slice-read-put-number : tie.Need-slice-read-put-number Inv-loop μ-loop
+slice-read-put-number c = omega (arith, c .before .before .before .wide .ensures, c .before .before .before .before .before .before .before .before .before .pre .1 .1 (c .before .before .before .before .before .before .loop .s) (c .before .before .before .before .before .loop-test .taken))
 
-put-bit-requires : tie.Need-put-bit-requires Inv-loop μ-loop
-put-bit-requires c κs = omega arith
+put-number-requires : tie.Need-put-number-requires Inv-loop μ-loop
+put-number-requires c κs = (omega arith, c .before .bit-where .ensures .1)
 
 mul-marks : tie.Need-mul-marks Inv-loop μ-loop
 mul-marks c = omega (arith, c .before .before .before .before .wide .ensures, c .before .before .before .before .before .before .before .before .before .before .pre .1 .1 (c .before .before .before .before .before .before .before .loop .s) (c .before .before .before .before .before .before .loop-test .taken))
@@ -62,7 +62,7 @@ loop-again c =
     let pre = c .before .before .before .before .before .before .before .before .before .before .pre in
     let t = c .before .before .before .before .before .before .loop-test .taken in (
       omega arith,
-      rw (c .put-bit .ensures, c .before .before .bit-where .ensures, c .before .before .before .before .wide .ensures)
+      rw (c .put-number .ensures, c .before .before .bit-where .ensures .0, c .before .before .before .before .wide .ensures)
           (gather-turn _ _ _ (pre .1 .0) (pre .0) (l .s) t (pre .1 .1 (l .s) t) (l .inv .1)),
     )
 
@@ -85,9 +85,9 @@ gather-pass-spec =
     mul-bit-where
     slice-read-bit-where
     bit-where-requires
-    mul-put-bit
-    slice-read-put-bit
-    put-bit-requires
+    mul-put-number
+    slice-read-put-number
+    put-number-requires
     mul-marks
     slice-write-marks
     add-s

@@ -6,28 +6,28 @@ use Rattle.evaluate.proofs.back.back_word.Tie as tie
 until-mark-requires : tie.Need-until-mark-requires
 until-mark-requires c κs = search needs
 
-put-bit-requires : tie.Need-put-bit-requires
-put-bit-requires c κs = search needs
+put-number-requires : tie.Need-put-number-requires
+put-number-requires c κs = (search needs, c .until-mark .ensures .1)
 
 bit-where-requires : tie.Need-bit-where-requires
 bit-where-requires c κs = search needs
 
-put-bit-requires-2 : tie.Need-put-bit-requires-2
-put-bit-requires-2 c κs = search needs
+put-number-requires-2 : tie.Need-put-number-requires-2
+put-number-requires-2 c κs = (search needs, c .bit-where .ensures .1)
 
 returns : tie.Need-returns
-returns c = rw (c .put-bit .ensures, c .before .until-mark .ensures, c .before .before .if1 .taken)
+returns c = rw (c .put-number .ensures, c .before .until-mark .ensures .0, c .before .before .if1 .taken)
 
 returns-2 : tie.Need-returns-2
-returns-2 c = rw (c .put-bit2 .ensures, c .before .bit-where .ensures, c .before .before .if1 .left)
+returns-2 c = rw (c .put-number2 .ensures, c .before .bit-where .ensures .0, c .before .before .if1 .left)
 
 pub back-word-spec : {M : Type 1} → statement M
 back-word-spec =
     tie.close
     (tie.spec
     until-mark-requires
-    put-bit-requires
+    put-number-requires
     bit-where-requires
-    put-bit-requires-2
+    put-number-requires-2
     returns
     returns-2)
