@@ -1,8 +1,9 @@
--- The pass from the last element on, once over what is looked for: until an element's turn bit i of its word says whether one of the
--- elements passed, whose column leads there, has given. Assumes nothing.
+-- The passes for what elements after have: bit i of a word gathers what is given by those whose column leads there. Without turns where
+-- each gives a bit that it has; from the last element on where it gives its mark, once over what is looked for. Assumes nothing.
 use Prim.Native.Nat.{ℕ, zero, suc, _+_, _*_, _^_, _%_, _-_, _≤_, _<_}
 use native.Mathlib.Decide.{ℕ-discrete, decLt}
 use native.Mathlib.Nat.{eq-or-lt-of-le}
+use native.Mathlib.Numerals.{add-one}
 use native.Mathlib.Omega.{arith}
 use mathlib.Core.Path.{_≡_, refl, sym, ap, ap₂, subst, _∙_}
 use mathlib.Core.Bool.{Bool, true, false, cond, _&&_, _||_}
@@ -10,12 +11,12 @@ use mathlib.Core.List.{List}
 use mathlib.Core.Logic.{⊎-elim}
 use mathlib.Core.Option.{Option, none, some}
 use borrow.Author.Tests.{lt-ltb, le-ltb, eq-eqb, ne-eqb}
+use lib.Bits.{bitOr}
 use lib.Dec.{ltb, eqb}
 use lib.ListN.{length, getD, set, List·getD-eq-default}
 use Rattle.grammar.proofs.Tells.{told-same, true-iff, eqb-told, and-told}
 use Rattle.meaning.specs.Links.{At}
 use Rattle.meaning.specs.Marks.{at, anyBelow, bit, bitAt}
-use Rattle.meaning.proofs.Words.{bit-top, bit-under}
 use Rattle.meaning.proofs.Ways.{at-iff}
 use Rattle.meaning.proofs.Tests.{at-told, any-told, bool-told}
 use Rattle.evaluate.specs.Links.{leads, leadsTo}
@@ -24,7 +25,7 @@ use Rattle.evaluate.specs.Steps.{ownStep, givenStep, aheadMark, Nearest}
 use Rattle.evaluate.specs.declared.ahead.Look.{Look}
 use Rattle.evaluate.specs.declared.ahead.Look.the-variants.{Any, Until, Every}
 use Rattle.evaluate.proofs.LinkLaws.{getD-any, leads-at, leads-down, leads-number, number-leads, leads-finds}
-use Rattle.evaluate.proofs.PassLaws.{at-put, passed-start, passed-same, passed-bit, passed-under, passed-rest, passed-set}
+use Rattle.evaluate.proofs.PassLaws.{at-put, passed-start, passed-same, passed-bit, passed-under, passed-join, passed-set}
 use Rattle.evaluate.proofs.StepLaws.{at-leads, ahead-own, anyFrom, anyFrom-end, anyFrom-next, anyFrom-all}
 
 or-false : (x : Bool) → (x || false) ≡ x
@@ -67,7 +68,60 @@ module _ (f : List ℕ) (t : ℕ) (l : t < length f) where
   child-is Until near x y z = refl
   child-is Every near x y z = ap (ownStep Every x y z) (nearest-child near)
 
--- ---- the pass
+-- ---- giving
+
+-- Element t gives q to the element that its column leads to: it is gathered there, and nowhere else.
+module _ (f : List ℕ) (t : ℕ) (l : t < length f) (q : Bool) where
+  led : (s : ℕ) → (at (leads f t) (λ u. eqb u s) && q) ≡ ((ltb (getD f t 0) t && eqb (getD f t 0) s) && q)
+  led s = rw (leads-at f t l, at-leads t (getD f t 0) (λ u. eqb u s))
+
+  gathered : (m : ℕ → Bool) (s : ℕ)
+      → at-put m (getD f t 0) (m (getD f t 0) || (ltb (getD f t 0) t && q)) s ≡ (m s || (at (leads f t) (λ u. eqb u s) && q))
+  gathered m s =
+      elim (ℕ-discrete s (getD f t 0)) [
+        | yes e ↦ rw (e, led (getD f t 0), eq-eqb (getD f t 0) (getD f t 0) refl, and-true)
+        | no ne ↦ rw (ne-eqb s (getD f t 0) ne, led s, ne-eqb (getD f t 0) s (λ e. ne (sym e)), and-false) (sym (or-false _))
+      ]
+
+-- ---- the pass without turns
+
+any-more : (n : ℕ) (p : ℕ → Bool) → anyBelow (suc n) p ≡ (p n || anyBelow n p)
+unfolding anyBelow
+any-more n p = refl
+
+or-swap : (x y : Bool) → (x || y) ≡ (y || x)
+or-swap true true = refl
+or-swap true false = refl
+or-swap false true = refl
+or-swap false false = refl
+
+module _ (f before : List ℕ) (a : ℕ) where
+  -- Bit i when the elements before k have given.
+  abbrev pub given-by : ℕ → ℕ → Bool
+  given-by k s = anyBelow k (λ c. at (leads f c) (λ u. eqb u s) && bitsOf before a c)
+
+  module _ {i : ℕ} (room : Room (length f) i before) where
+    pub gather-start : Passed (length f) i (given-by 0) before before
+    unfolding anyBelow
+    gather-start = passed-start room
+
+    pub gather-turn : (la : a < i) {after : List ℕ} (k : ℕ) → k < length f → getD f k 0 ≤ k → Passed (length f) i (given-by k) before after
+        → Passed (length f) i (given-by (k + 1)) before
+        (set after (getD f k 0) (bitOr (getD after (getD f k 0) 0) (bit (ltb (getD f k 0) k && bitAt (getD after k 0) a) * 2 ^ i)))
+    gather-turn la {after} k l near r =
+        rw (passed-under room r k l a la)
+        (passed-same room (λ s h. gathered f k l (bitsOf before a k) (given-by k) s ∙ more s)
+        (passed-join room r (getD f k 0) (omega arith) (ltb (getD f k 0) k && bitsOf before a k)))
+      where
+        more : (s : ℕ) → (given-by k s || (at (leads f k) (λ u. eqb u s) && bitsOf before a k)) ≡ given-by (k + 1) s
+        more s = rw (add-one k, any-more) (or-swap (given-by k s) (at (leads f k) (λ u. eqb u s) && bitsOf before a k))
+
+    pub gather-end : {after : List ℕ} (k : ℕ) → k ≡ length f → Passed (length f) i (given-by k) before after
+        → Passed (length f) i (aheadMark Any (length f) (leads f) (bitsOf before a) (bitsOf before a)) before after
+    unfolding aheadMark
+    gather-end k e r = rw e at r
+
+-- ---- the pass by turns
 
 module _ (look : Look) (f before : List ℕ) (a b : ℕ) where
   -- The marks of the pass, what each element gives, and who gives to s.
@@ -151,33 +205,28 @@ module _ (look : Look) (f before : List ℕ) (a b : ℕ) where
       soon : (s : ℕ) → s < t → at-put (midst (suc t)) t own s ≡ anyFrom (length f) (gives-to s) (suc t)
       soon s h = rw (ne-eqb s t (λ e. omega arith), lt-ltb s (suc t) (omega arith))
 
-      given-is : givenStep look (bitAt word a) (bitAt word i) ≡ gives t
-      given-is =
-          rw (passed-rest room (mid .passed) t l, bit-under i a own (getD before t 0) la, bit-top i own (getD before t 0) (room .small t l), own-is)
+      given-is : givenStep look (bitAt w a) own ≡ gives t
+      given-is = ap₂ (λ (x y : Bool). givenStep look x y) (passed-under room (mid .passed) t l a la) own-is
 
       module _ (near : p ≤ t) where
         abbrev v : ℕ
         v = getD after₁ p 0
 
         abbrev on : Bool
-        on = bitAt v i || (ltb p t && givenStep look (bitAt word a) (bitAt word i))
+        on = ltb p t && givenStep look (bitAt w a) own
 
-        -- Giving to the element that the column leads to gathers there, and nowhere else.
-        led : (s : ℕ) → gives-to s t ≡ ((ltb p t && eqb p s) && gives t)
-        led s = rw (leads-at f t l, at-leads t p (λ u. eqb u s))
+        abbrev was : ℕ → Bool
+        was = at-put (midst (suc t)) t own
 
-        gathered : (s : ℕ) → at-put (at-put (midst (suc t)) t own) p on s ≡ (at-put (midst (suc t)) t own s || gives-to s t)
-        gathered s =
-            elim (ℕ-discrete s p) [
-              | yes e ↦ rw (e, led p, eq-eqb p p refl, and-true, passed-bit room passed₁ p (omega arith), given-is)
-              | no ne ↦ rw (ne-eqb s p ne, led s, ne-eqb p s (λ e. ne (sym e)), and-false) (sym (or-false _))
-            ]
+        gathers : (s : ℕ) → at-put was p (was p || on) s ≡ (was s || gives-to s t)
+        gathers s =
+            ap (λ (q : Bool). at-put was p (was p || (ltb p t && q)) s) given-is ∙ gathered f t l (gives t) was s
 
         not-late : (s : ℕ) → t ≤ s → gives-to s t ≡ false
         not-late s h =
             elim (decLt p t) [
-              | yes m ↦ rw (led s, ne-eqb p s (λ e. omega arith), and-false)
-              | no m ↦ rw (led s, le-ltb p t (omega arith))
+              | yes m ↦ rw (led f t l (gives t) s, ne-eqb p s (λ e. omega arith), and-false)
+              | no m ↦ rw (led f t l (gives t) s, le-ltb p t (omega arith))
             ]
 
         turned : (s : ℕ) → (at-put (midst (suc t)) t own s || gives-to s t) ≡ midst t s
@@ -188,12 +237,12 @@ module _ (look : Look) (f before : List ℕ) (a b : ℕ) where
             ]
 
         -- One turn.
-        pub ahead-turn : AheadMid i (set after₁ p (bit on * 2 ^ i + v % 2 ^ i)) p t
+        pub ahead-turn : AheadMid i (set after₁ p (bitOr v (bit on * 2 ^ i))) p t
         ahead-turn =
             record {
               within = omega arith;
               next-is = getD-any f t 0 (length f) l;
-              passed = passed-same room (λ s h. gathered s ∙ turned s) (passed-set room passed₁ p (omega arith) on);
+              passed = passed-same room (λ s h. gathers s ∙ turned s) (passed-join room passed₁ p (omega arith) on);
             }
 
   -- At the end every element has its mark.

@@ -7,7 +7,7 @@ use native.Mathlib.Numerals.{add-one}
 use native.Mathlib.Omega.{arith}
 use lib.Arith.{lt-of-le-ne}
 use mathlib.Core.Path.{_≡_, refl, sym, ap, subst, _∙_}
-use mathlib.Core.Bool.{Bool, true, false}
+use mathlib.Core.Bool.{Bool, true, false, not, xor, _&&_, _||_}
 use mathlib.Core.List.{List, [], _∷_, _++_}
 use mathlib.Core.Option.{Option, some}
 use lib.ListN.{length, getD, take, drop}
@@ -44,6 +44,31 @@ range-past l n = lt-of-le-ne l (λ e. n (sym e))
 
 pub range-under : {k m : ℕ} → k ≤ suc m → (k ≡ suc m → ⊥) → k ≤ m
 range-under l n = le-of-suc-le-suc (lt-of-le-ne l n)
+
+-- The gates of kinds 1, 3, 4 and 5.
+pub gate-always : (x : Bool) → xor (xor x false && xor x true) true ≡ true
+unfolding xor
+gate-always true = refl
+gate-always false = refl
+
+pub gate-not : (x : Bool) → xor (xor x true && xor x true) false ≡ not x
+unfolding xor
+gate-not true = refl
+gate-not false = refl
+
+pub gate-or : (x y : Bool) → xor (xor x true && xor y true) true ≡ (x || y)
+unfolding xor
+gate-or true true = refl
+gate-or true false = refl
+gate-or false true = refl
+gate-or false false = refl
+
+pub gate-and : (x y : Bool) → xor (xor x false && xor y false) false ≡ (x && y)
+unfolding xor
+gate-and true true = refl
+gate-and true false = refl
+gate-and false true = refl
+gate-and false false = refl
 
 -- The table of passes along parents and previous siblings is the table of kinds.
 pub pass-means : (levels labels : List ℕ) (k : Kind) (l : ℕ) (a b : ℕ → Bool) (s : ℕ)

@@ -6,9 +6,10 @@ use native.Mathlib.Nat.{zero-mul, zero-add, eq-or-lt-of-le}
 use native.Mathlib.Numerals.{add-one}
 use native.Mathlib.Omega.{arith}
 use mathlib.Core.Path.{_≡_, refl, sym, ap, subst, _∙_}
-use mathlib.Core.Bool.{Bool, true, false, cond, _&&_}
+use mathlib.Core.Bool.{Bool, true, false, cond, _&&_, _||_}
 use mathlib.Core.List.{List}
 use borrow.Author.Tests.{lt-ltb, le-ltb, eq-eqb, ne-eqb}
+use lib.Bits.{bitOr}
 use lib.Dec.{ltb, eqb}
 use lib.ListN.{length, getD, set, length-set}
 use lib.Pow.{low}
@@ -16,6 +17,7 @@ use lib.Seq.{getD-set-same, getD-set-other}
 use Rattle.meaning.specs.Marks.{bit, bitAt}
 use Rattle.meaning.proofs.Words.{bit-top, bit-under}
 use Rattle.evaluate.specs.Pass.{Stored, Passed, Room, bitsOf}
+use Rattle.evaluate.proofs.WordLaws.{joined-bit}
 
 -- The values w, with v at t.
 abbrev pub at-put : {A : Type 0} → (ℕ → A) → (t : ℕ) → A → ℕ → A
@@ -93,6 +95,19 @@ module _ {n i : ℕ} {before : List ℕ} (room : Room n i before) where
     pub passed-rest : getD after s 0 % 2 ^ i ≡ getD before s 0
     passed-rest = rw (r .stored .put s l) (low (bit (m s)) i (room .small s l))
 
+    -- One element's mark joined by another.
+    pub passed-join : (on : Bool) → Passed n i (at-put m s (m s || on)) before (set after s (bitOr (getD after s 0) (bit on * 2 ^ i)))
+    passed-join on =
+        record { stored = stored-same n before (λ k h. put-word k) (stored-set n before s _ (room .room) l (r .stored)) }
+      where
+        put-word : (k : ℕ) → at-put (λ k. bit (m k) * 2 ^ i + getD before k 0) s (bitOr (getD after s 0) (bit on * 2 ^ i)) k
+            ≡ bit (at-put m s (m s || on) k) * 2 ^ i + getD before k 0
+        put-word k =
+            elim (ℕ-discrete k s) [
+              | yes e ↦ rw (e, eq-eqb s s refl, r .stored .put s l) (joined-bit i (getD before s 0) (m s) on (room .small s l))
+              | no ne ↦ rw (ne-eqb k s ne)
+            ]
+
     -- Another mark at one element.
     pub passed-set : (on : Bool) → Passed n i (at-put m s on) before (set after s (bit on * 2 ^ i + getD after s 0 % 2 ^ i))
     passed-set on =
@@ -119,12 +134,12 @@ module _ {n i : ℕ} {before : List ℕ} (room : Room n i before) (m : ℕ → B
 
   -- One element more.
   pub ascent-turn : {after : List ℕ} (k : ℕ) (on : Bool) → k < n → on ≡ m k → Passed n i (before-only m k) before after
-      → Passed n i (before-only m (k + 1)) before (set after k (bit on * 2 ^ i + getD after k 0 % 2 ^ i))
-  ascent-turn k on l e r = passed-same room (λ s h. turn s) (passed-set room r k l on) where
-    turn : (s : ℕ) → at-put (before-only m k) k on s ≡ before-only m (k + 1) s
+      → Passed n i (before-only m (k + 1)) before (set after k (bitOr (getD after k 0) (bit on * 2 ^ i)))
+  ascent-turn k on l e r = passed-same room (λ s h. turn s) (passed-join room r k l on) where
+    turn : (s : ℕ) → at-put (before-only m k) k (before-only m k k || on) s ≡ before-only m (k + 1) s
     turn s =
         elim (ℕ-discrete s k) [
-          | yes q ↦ rw (q, eq-eqb k k refl, lt-ltb k (k + 1) (omega arith)) e
+          | yes q ↦ rw (q, eq-eqb k k refl, le-ltb k k (omega arith), lt-ltb k (k + 1) (omega arith)) e
           | no ne ↦ rw (ne-eqb s k ne) (ap (λ (b : Bool). b && m s) (side s ne))
         ]
       where

@@ -11,15 +11,15 @@ use mathlib.Core.Option.{Option, none, some}
 use lib.Dec.{leb, ltb, eqb}
 use lib.ListN.{length, getD}
 use Rattle.grammar.proofs.Tells.{Told, holds, fails, told-same, leb-told, or-told, and-told}
-use Rattle.meaning.specs.Meaning.{kindOf}
 use Rattle.meaning.specs.Marks.{at, anyBelow, allBelow, bitAt}
 use Rattle.meaning.proofs.Tests.{Finds, bool-told, any-told}
 use Rattle.meaning.proofs.OneStep.{backward-step, forward-step}
 use Rattle.evaluate.specs.Links.{leads, leadsTo}
 use Rattle.evaluate.specs.Pass.{Passed, Room, bitsOf}
-use Rattle.evaluate.specs.Steps.{localMark, backStep, backMark, ownStep, givenStep, aheadMark}
+use Rattle.evaluate.specs.Steps.{gateMark, backStep, backMark, ownStep, givenStep, aheadMark}
 use Rattle.evaluate.specs.declared.ahead.Look.{Look}
 use Rattle.evaluate.specs.declared.ahead.Look.the-variants.{Any, Until, Every}
+use Rattle.evaluate.specs.declared.local.Gate.{Gate}
 use Rattle.evaluate.proofs.LinkLaws.{leads-at, leads-finds}
 use Rattle.evaluate.proofs.PassLaws.{before-only, ascent-word, passed-bit, passed-under}
 
@@ -32,14 +32,13 @@ at-leads s number m = go (ltb number s) where
 
 -- ---- from the first element on
 
--- What the local pass reads at an element gives the element's mark.
-pub local-turn : {n i : ℕ} {before after : List ℕ} (labels : List ℕ) (kind a b s : ℕ) → Room n i before → s < n
-    → Passed n i (before-only (λ s. localMark (kindOf kind) a (getD labels s 0) (bitsOf before a s) (bitsOf before b s)) s) before after
-    → localMark (kindOf kind) a (getD labels s 0) (bitAt (getD after s 0) a) (bitAt (getD after s 0) b)
-    ≡ localMark (kindOf kind) a (getD labels s 0) (bitsOf before a s) (bitsOf before b s)
-local-turn {n} {i} {before} {after} labels kind a b s room l r =
-    ap (λ (w : ℕ). localMark (kindOf kind) a (getD labels s 0) (bitAt w a) (bitAt w b))
-    (ascent-word room (λ s. localMark (kindOf kind) a (getD labels s 0) (bitsOf before a s) (bitsOf before b s)) s l r)
+-- What the pass of a gate reads at an element gives the element's mark.
+pub gate-turn : {n i : ℕ} {before after : List ℕ} (g : Gate) (a b s : ℕ) → Room n i before → s < n
+    → Passed n i (before-only (λ s. gateMark g (bitsOf before a s) (bitsOf before b s)) s) before after
+    → gateMark g (bitAt (getD after s 0) a) (bitAt (getD after s 0) b) ≡ gateMark g (bitsOf before a s) (bitsOf before b s)
+gate-turn {n} {i} {before} {after} g a b s room l r =
+    ap (λ (w : ℕ). gateMark g (bitAt w a) (bitAt w b))
+    (ascent-word room (λ s. gateMark g (bitsOf before a s) (bitsOf before b s)) s l r)
 
 -- The mark is the step over the element's own bits and over bit a and the mark where F leads.
 pub back-own : {R : ℕ → ℕ → Type 0} {F : ℕ → Option ℕ} {n : ℕ} → Finds R F n → (until : Bool) (a b : ℕ → Bool) (s : ℕ) → s < n

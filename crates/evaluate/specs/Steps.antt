@@ -5,7 +5,7 @@
 -- Assumes nothing.
 use Prim.Native.Nat.{ℕ, suc}
 use mathlib.Core.Path.{_≡_}
-use mathlib.Core.Bool.{Bool, true, false, cond, not, _&&_, _||_}
+use mathlib.Core.Bool.{Bool, true, false, cond, not, xor, _&&_, _||_}
 use mathlib.Core.List.{List}
 use mathlib.Core.Option.{Option, some}
 use lib.Dec.{eqb}
@@ -15,6 +15,7 @@ use Rattle.meaning.specs.Marks.{at, anyBelow, allBelow, backward, forward}
 use Rattle.evaluate.specs.Links.{leads}
 use Rattle.evaluate.specs.declared.ahead.Look.{Look}
 use Rattle.evaluate.specs.declared.ahead.Look.the-variants.{Any, Until, Every}
+use Rattle.evaluate.specs.declared.local.Gate.{Gate}
 
 -- Kinds 1 to 5 at an element: `label` is the entry's, `own` the element's, a and b its bits.
 unfoldable pub localMark : Kind → (label own : ℕ) (a b : Bool) → Bool
@@ -34,6 +35,10 @@ localMark right label own a b = false
 localMark left label own a b = false
 localMark everyChild label own a b = false
 
+-- What a gate makes of two bits: their and, where the gate says so of each bit inverted, and inverted itself.
+unfoldable pub gateMark : Gate → (x y : Bool) → Bool
+gateMark g x y = xor (xor x (g .0) && xor y (g .1)) (g .2)
+
 -- ---- passes from the first element on
 
 -- Kinds 7 and 9, or 11 and 13 (until), at an element: a and b are its bits, `back` and `mark` bit a and the pass's mark where F leads.
@@ -45,7 +50,7 @@ unfoldable pub backMark : (until : Bool) (F : ℕ → Option ℕ) (a b : ℕ →
 backMark true F a b s = backward F a b s
 backMark false F a b s = at (F s) a
 
--- ---- passes from the last element on
+-- ---- passes for what elements after have
 
 -- Kinds 6 and 8 (Any), 10 and 12 (Until), 14 (Every) at an element: a and b are its bits, `gathered` says that an element that leads
 -- here has given, `child` that one leads here.

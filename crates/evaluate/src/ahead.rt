@@ -1,14 +1,18 @@
-// Kinds 6, 8, 10, 12 and 14: what the elements after, whose column leads here, have given. Until an
-// element's own turn, bit i of its word says whether one of them gave.
+// Kinds 6, 8, 10, 12 and 14: what the elements after, whose column leads here, have given. Bit i of an
+// element's word says whether one of them gave: in a pass by turns only until the element's own.
 ghost use mathlib.Core.Path.{_≡_};
-ghost use mathlib.Core.Bool.{_&&_, _||_};
-ghost use Prim.Native.Nat.{ℕ, _+_, _*_, _^_, _%_, _≤_, _<_};
+ghost use mathlib.Core.Bool.{_&&_};
+ghost use Prim.Native.Nat.{ℕ, _≤_, _<_};
 ghost use lib.ListN.{length, getD};
-ghost use Rattle.meaning.specs.Marks.{bit, bitAt};
+ghost use Rattle.meaning.specs.Marks.{bitAt};
 ghost use Rattle.evaluate.specs.Links.{leads};
 ghost use Rattle.evaluate.specs.Pass.{Passed, Room, bitsOf};
+ghost use Rattle.evaluate.specs.declared.ahead.Look.the-variants.{Any};
 ghost use Rattle.evaluate.specs.Steps.{ownStep, givenStep, aheadMark, Nearest};
 use crate::word::bit_at;
+use crate::word::bit_where;
+use crate::word::put_bit;
+use crate::word::put_number;
 use crate::word::wide;
 use crate::word::with_bit;
 
@@ -20,7 +24,7 @@ pub(crate) enum Look {
     Every,
 }
 
-// An element's mark.
+// An element's mark, by its bits.
 fn own_mark(look: Look, a: bool, b: bool, gathered: bool, child: bool) -> bool
     ensures { λ r. ⌜ r ≡ ownStep look a b gathered child ⌝ }
 {
@@ -42,33 +46,25 @@ fn given_mark(look: Look, a: bool, own: bool) -> bool
     }
 }
 
-// The word of an element, with its mark where the gathered bit was.
-fn own_word(look: Look, a: usize, b: usize, i: usize, child: bool, w: u64) -> u64
-    requires { ⌜ i < 64 ⌝ }
-    ensures { λ r. ⌜ r ≡ bit (ownStep look (bitAt w a) (bitAt w b) (bitAt w i) child) * 2 ^ i + w % 2 ^ i ⌝ }
+// An element's mark, by its word.
+fn own_at(look: Look, a: usize, b: usize, i: usize, child: bool, w: u64) -> bool
+    requires { ⌜ (a < 64) × (b < 64) × (i < 64) ⌝ }
+    ensures { λ r. ⌜ r ≡ ownStep look (bitAt w a) (bitAt w b) (bitAt w i) child ⌝ }
 {
-    with_bit(
-        w,
-        i,
-        own_mark(look, bit_at(w, a), bit_at(w, b), bit_at(w, i), child),
-    )
+    own_mark(look, bit_at(w, a), bit_at(w, b), bit_at(w, i), child)
 }
 
-// The word v with what the element of the word w gives, if its column leads on.
-fn given_word(look: Look, a: usize, i: usize, there: bool, w: u64, v: u64) -> u64
-    requires { ⌜ i < 64 ⌝ }
-    ensures { λ r. ⌜ r ≡ bit (bitAt v i || (there && givenStep look (bitAt w a) (bitAt w i))) * 2 ^ i + v % 2 ^ i ⌝ }
+// Whether an element of the word w and the mark `own` gives, if its column leads on.
+fn given_at(look: Look, a: usize, there: bool, own: bool, w: u64) -> bool
+    requires { ⌜ a < 64 ⌝ }
+    ensures { λ r. ⌜ r ≡ (there && givenStep look (bitAt w a) own) ⌝ }
 {
-    with_bit(
-        v,
-        i,
-        bit_at(v, i) | (there & given_mark(look, bit_at(w, a), bit_at(w, i))),
-    )
+    there & given_mark(look, bit_at(w, a), own)
 }
 
-// Entry i at every element, from the last on: each has gathered from all that lead to it before its
-// own turn. `next` is where the element after leads.
-pub(crate) fn ahead_pass(look: Look, a: usize, b: usize, i: usize, f: &[u16], marks: &mut [u64])
+// Entry i at every element, by turns from the last on: each has gathered from all that lead to it before
+// its own turn. `next` is where the element after leads.
+fn turn_pass(look: Look, a: usize, b: usize, i: usize, f: &[u16], marks: &mut [u64])
     requires { ⌜ (a < i) × (b < i) ⌝ }
     requires { ⌜ Room (length (now f)) i (now marks) ⌝ }
     requires { ⌜ ((s : ℕ) → s < length (now f) → getD (now f) s 0 ≤ s) ⌝ }
@@ -79,9 +75,42 @@ pub(crate) fn ahead_pass(look: Look, a: usize, b: usize, i: usize, f: &[u16], ma
     let mut next = t;
     while 0 < t {
         t -= 1;
-        let w = own_word(look, a, b, i, next == t, marks[t]);
-        marks[t] = w;
+        let w = marks[t];
+        let own = own_at(look, a, b, i, next == t, w);
+        marks[t] = with_bit(w, i, own);
         next = wide(f[t]);
-        marks[next] = given_word(look, a, i, next < t, w, marks[next]);
+        let given = given_at(look, a, next < t, own, w);
+        marks[next] = put_bit(marks[next], i, given);
+    }
+}
+
+// Entry i at every element, where each gives a bit that stands there before the pass, and its mark is what
+// it has gathered. So there are no turns: from the first on, no element reads what was just stored.
+fn gather_pass(a: usize, i: usize, f: &[u16], marks: &mut [u64])
+    requires { ⌜ a < i ⌝ }
+    requires { ⌜ Room (length (now f)) i (now marks) ⌝ }
+    requires { ⌜ ((s : ℕ) → s < length (now f) → getD (now f) s 0 ≤ s) ⌝ }
+    ensures { λ _. ⌜ Passed (length (now (f .entry))) i (aheadMark Any (length (now (f .entry))) (leads (now (f .entry))) (bitsOf (now (marks .entry)) a) (bitsOf (now (marks .entry)) a)) (now (marks .entry)) (now (marks .exit)) ⌝ }
+{
+    let mut s: usize = 0;
+    while s < f.len() {
+        let p = wide(f[s]);
+        let given = bit_where(marks[s], a, p < s);
+        marks[p] = put_number(marks[p], i, given);
+        s += 1;
+    }
+}
+
+// Entry i at every element, by turns where they are needed.
+pub(crate) fn ahead_pass(look: Look, a: usize, b: usize, i: usize, f: &[u16], marks: &mut [u64])
+    requires { ⌜ (a < i) × (b < i) ⌝ }
+    requires { ⌜ Room (length (now f)) i (now marks) ⌝ }
+    requires { ⌜ ((s : ℕ) → s < length (now f) → getD (now f) s 0 ≤ s) ⌝ }
+    requires { ⌜ Nearest look (now f) ⌝ }
+    ensures { λ _. ⌜ Passed (length (now (f .entry))) i (aheadMark look (length (now (f .entry))) (leads (now (f .entry))) (bitsOf (now (marks .entry)) a) (bitsOf (now (marks .entry)) b)) (now (marks .entry)) (now (marks .exit)) ⌝ }
+{
+    match look {
+        Look::Any => gather_pass(a, i, f, marks),
+        _ => turn_pass(look, a, b, i, f, marks),
     }
 }

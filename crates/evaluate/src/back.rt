@@ -1,26 +1,35 @@
 // Kinds 7, 9, 11 and 13: what the element before, to which a column leads, has.
 ghost use mathlib.Core.Path.{_≡_};
-ghost use mathlib.Core.Bool.{_&&_};
-ghost use Prim.Native.Nat.{ℕ, _+_, _*_, _^_, _%_, _≤_, _<_};
+ghost use mathlib.Core.Bool.{_&&_, _||_};
+ghost use Prim.Native.Nat.{ℕ, _*_, _^_, _≤_, _<_};
+ghost use lib.Bits.{bitOr};
 ghost use lib.ListN.{length, getD};
 ghost use Rattle.meaning.specs.Marks.{bit, bitAt};
 ghost use Rattle.evaluate.specs.Links.{leads};
 ghost use Rattle.evaluate.specs.Pass.{Passed, Room, bitsOf};
 ghost use Rattle.evaluate.specs.Steps.{backStep, backMark};
-use crate::word::bit_at;
+use crate::word::bit_where;
+use crate::word::put_number;
 use crate::word::wide;
-use crate::word::with_bit;
+
+// As a number, whether the word w has bit b, or bit a and, where `there`, the word v bit i.
+fn until_mark(a: usize, b: usize, i: usize, there: bool, v: u64, w: u64) -> u64
+    requires { ⌜ (a < 64) × (b < 64) × (i < 64) ⌝ }
+    ensures { λ r. ⌜ (r ≡ bit (bitAt w b || (bitAt w a && (there && bitAt v i)))) × (r < 2) ⌝ }
+{
+    ((w >> b) | ((w >> a) & ((there as u64) & (v >> i)))) % 2
+}
 
 // The word of an element, with the mark of entry i: `there` says that its column leads on, to an
 // element with the word v.
 fn back_word(until: bool, a: usize, b: usize, i: usize, there: bool, v: u64, w: u64) -> u64
-    requires { ⌜ i < 64 ⌝ }
-    ensures { λ r. ⌜ r ≡ bit (backStep until (bitAt w a) (bitAt w b) (there && bitAt v a) (there && bitAt v i)) * 2 ^ i + w % 2 ^ i ⌝ }
+    requires { ⌜ (a < 64) × (b < 64) × (i < 64) ⌝ }
+    ensures { λ r. ⌜ r ≡ bitOr w (bit (backStep until (bitAt w a) (bitAt w b) (there && bitAt v a) (there && bitAt v i)) * 2 ^ i) ⌝ }
 {
     if until {
-        with_bit(w, i, bit_at(w, b) | (bit_at(w, a) & (there & bit_at(v, i))))
+        put_number(w, i, until_mark(a, b, i, there, v, w))
     } else {
-        with_bit(w, i, there & bit_at(v, a))
+        put_number(w, i, bit_where(v, a, there))
     }
 }
 

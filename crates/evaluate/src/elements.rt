@@ -25,7 +25,7 @@ fn clear(marks: &mut [u64], n: usize)
 
 // How many of the first n words have the last entry's bit.
 fn count_selected(marks: &[u64], n: usize, entries: usize) -> usize
-    requires { ⌜ (n ≤ length (now marks)) × (1 ≤ entries) ⌝ }
+    requires { ⌜ (n ≤ length (now marks)) × (1 ≤ entries) × (entries ≤ 64) ⌝ }
     ensures { λ r. ⌜ r ≡ selected entries (take n (now (marks .entry))) ⌝ }
 {
     let mut count: usize = 0;

@@ -1,38 +1,58 @@
 // Kinds 1 to 5: what an element's own label and bits say.
 ghost use mathlib.Core.Path.{_≡_};
-ghost use Prim.Native.Nat.{_+_, _*_, _^_, _%_, _≤_, _<_};
+ghost use Prim.Native.Nat.{_≤_, _<_};
+ghost use lib.Dec.{eqb};
 ghost use lib.ListN.{length, getD};
 ghost use Rattle.meaning.specs.Meaning.{kindOf};
-ghost use Rattle.meaning.specs.Marks.{bit, bitAt};
+ghost use Rattle.meaning.specs.Marks.{bitAt};
 ghost use Rattle.evaluate.specs.Pass.{Passed, Room, bitsOf};
-ghost use Rattle.evaluate.specs.Steps.{localMark};
-use crate::word::bit_at;
+ghost use Rattle.evaluate.specs.Steps.{localMark, gateMark};
+use crate::word::put_bit;
 use crate::word::wide;
-use crate::word::with_bit;
 
-// The mark of an element: `label` is the entry's, `own` the element's, a and b its bits.
-fn local_mark(kind: usize, label: usize, own: usize, a: bool, b: bool) -> bool
-    requires { ⌜ (1 ≤ kind) × (kind ≤ 5) ⌝ }
-    ensures { λ r. ⌜ r ≡ localMark (kindOf kind) label own a b ⌝ }
+// What kinds 1, 3, 4 and 5 make of two bits: an and whose inputs and whose output are each inverted or
+// not. With the gate of its kind an entry's loop has no branch, and takes several elements at once.
+struct Gate(bool, bool, bool);
+
+// The gate at bits a and b of a word.
+fn gate_mark(g: Gate, a: usize, b: usize, w: u64) -> bool
+    requires { ⌜ (a < 64) × (b < 64) ⌝ }
+    ensures { λ r. ⌜ r ≡ gateMark g (bitAt w a) (bitAt w b) ⌝ }
 {
-    match kind {
-        1 => true,
-        2 => own == label,
-        3 => !a,
-        4 => a | b,
-        _ => a & b,
+    let x = (w >> a) ^ (g.0 as u64);
+    let y = (w >> b) ^ (g.1 as u64);
+    ((x & y) ^ (g.2 as u64)) % 2 == 1
+}
+
+// Entry i at the first n elements, by a gate at their bits a and b.
+fn gate_pass(g: Gate, a: usize, b: usize, i: usize, n: usize, marks: &mut [u64])
+    requires { ⌜ (a < 64) × (b < 64) ⌝ }
+    requires { ⌜ Room n i (now marks) ⌝ }
+    ensures { λ _. ⌜ Passed n i (λ s. gateMark g (bitsOf (now (marks .entry)) a s) (bitsOf (now (marks .entry)) b s)) (now (marks .entry)) (now (marks .exit)) ⌝ }
+{
+    let mut s: usize = 0;
+    while s < n {
+        let w = marks[s];
+        marks[s] = put_bit(w, i, gate_mark(g, a, b, w));
+        s += 1;
     }
 }
 
-// The word of an element, with the mark of entry i.
-fn local_word(kind: usize, a: usize, b: usize, i: usize, own: usize, w: u64) -> u64
-    requires { ⌜ (1 ≤ kind) × (kind ≤ 5) × (i < 64) ⌝ }
-    ensures { λ r. ⌜ r ≡ bit (localMark (kindOf kind) a own (bitAt w a) (bitAt w b)) * 2 ^ i + w % 2 ^ i ⌝ }
+// Entry i at every element, by the elements' labels.
+fn label_pass(label: usize, i: usize, labels: &[u16], marks: &mut [u64])
+    requires { ⌜ Room (length (now labels)) i (now marks) ⌝ }
+    ensures { λ _. ⌜ Passed (length (now (labels .entry))) i (λ s. eqb (getD (now (labels .entry)) s 0) label) (now (marks .entry)) (now (marks .exit)) ⌝ }
 {
-    with_bit(w, i, local_mark(kind, a, own, bit_at(w, a), bit_at(w, b)))
+    let mut s: usize = 0;
+    while s < labels.len() {
+        let own = wide(labels[s]);
+        marks[s] = put_bit(marks[s], i, own == label);
+        s += 1;
+    }
 }
 
-// Entry i at every element, by the elements' labels and own words.
+// Entry i at every element, by the elements' labels and own words. Kind 1 is the inverse of a bit and its
+// own inverse, of whichever bit; kind 3 that of a bit twice.
 pub(crate) fn local_pass(
     kind: usize,
     a: usize,
@@ -41,13 +61,16 @@ pub(crate) fn local_pass(
     labels: &[u16],
     marks: &mut [u64],
 )
-    requires { ⌜ (1 ≤ kind) × (kind ≤ 5) ⌝ }
+    requires { ⌜ (1 ≤ kind) × (kind ≤ 5) × (3 ≤ kind → (a < i) × (b < i)) ⌝ }
     requires { ⌜ Room (length (now labels)) i (now marks) ⌝ }
     ensures { λ _. ⌜ Passed (length (now (labels .entry))) i (λ s. localMark (kindOf kind) a (getD (now (labels .entry)) s 0) (bitsOf (now (marks .entry)) a s) (bitsOf (now (marks .entry)) b s)) (now (marks .entry)) (now (marks .exit)) ⌝ }
 {
-    let mut s: usize = 0;
-    while s < labels.len() {
-        marks[s] = local_word(kind, a, b, i, wide(labels[s]), marks[s]);
-        s += 1;
+    let n = labels.len();
+    match kind {
+        1 => gate_pass(Gate(false, true, true), 0, 0, i, n, marks),
+        2 => label_pass(a, i, labels, marks),
+        3 => gate_pass(Gate(true, true, false), a, a, i, n, marks),
+        4 => gate_pass(Gate(true, true, true), a, b, i, n, marks),
+        _ => gate_pass(Gate(false, false, false), a, b, i, n, marks),
     }
 }

@@ -1,6 +1,8 @@
 // Bits of a mark word.
 ghost use mathlib.Core.Path.{_≡_};
+ghost use mathlib.Core.Bool.{_&&_};
 ghost use Prim.Native.Nat.{_+_, _*_, _^_, _%_, _<_};
+ghost use lib.Bits.{bitOr};
 ghost use Rattle.meaning.specs.Marks.{bit, bitAt};
 
 // A number of a column, as an index.
@@ -10,11 +12,21 @@ pub(crate) fn wide(x: u16) -> usize
     x as usize
 }
 
-// Bit a of a word; there is none from 64 on.
+// Bit a of a word.
 pub(crate) fn bit_at(w: u64, a: usize) -> bool
+    requires { ⌜ a < 64 ⌝ }
     ensures { λ r. ⌜ r ≡ bitAt w a ⌝ }
 {
-    if a < 64 { (w >> a) % 2 == 1 } else { false }
+    (w >> a) % 2 == 1
+}
+
+// Bit a of a word, where `there`, as a number. What is put into a word right away stays one: as a test it
+// goes through the low byte of a register, and each element waits for the one before.
+pub(crate) fn bit_where(w: u64, a: usize, there: bool) -> u64
+    requires { ⌜ a < 64 ⌝ }
+    ensures { λ r. ⌜ (r ≡ bit (there && bitAt w a)) × (r < 2) ⌝ }
+{
+    (there as u64) & (w >> a)
 }
 
 // The bits below i of a word, and bit i set or not.
@@ -23,4 +35,20 @@ pub(crate) fn with_bit(w: u64, i: usize, on: bool) -> u64
     ensures { λ r. ⌜ r ≡ bit on * 2 ^ i + w % 2 ^ i ⌝ }
 {
     (w & ((1 << i) - 1)) | ((on as u64) << i)
+}
+
+// A word with bit i set too, or as it was: no mask is needed.
+pub(crate) fn put_bit(w: u64, i: usize, on: bool) -> u64
+    requires { ⌜ i < 64 ⌝ }
+    ensures { λ r. ⌜ r ≡ bitOr w (bit on * 2 ^ i) ⌝ }
+{
+    w | ((on as u64) << i)
+}
+
+// The same of a bit that is a number.
+pub(crate) fn put_number(w: u64, i: usize, on: u64) -> u64
+    requires { ⌜ (i < 64) × (on < 2) ⌝ }
+    ensures { λ r. ⌜ r ≡ bitOr w (on * 2 ^ i) ⌝ }
+{
+    w | (on << i)
 }

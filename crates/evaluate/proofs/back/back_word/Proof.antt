@@ -3,39 +3,31 @@ use borrow.Author.Needs.{needs}
 use Rattle.evaluate.proofs.back.back_word.Statement.{statement}
 use Rattle.evaluate.proofs.back.back_word.Tie as tie
 
-bit-at-requires : tie.Need-bit-at-requires
-bit-at-requires c κs = search needs
+until-mark-requires : tie.Need-until-mark-requires
+until-mark-requires c κs = search needs
 
-bit-at-requires-2 : tie.Need-bit-at-requires-2
-bit-at-requires-2 c κs = search needs
+put-number-requires : tie.Need-put-number-requires
+put-number-requires c κs = (search needs, c .until-mark .ensures .1)
 
-bit-at-requires-3 : tie.Need-bit-at-requires-3
-bit-at-requires-3 c κs = search needs
+bit-where-requires : tie.Need-bit-where-requires
+bit-where-requires c κs = search needs
 
-with-bit-requires : tie.Need-with-bit-requires
-with-bit-requires c κs = search needs
-
-bit-at-requires-4 : tie.Need-bit-at-requires-4
-bit-at-requires-4 c κs = search needs
-
-with-bit-requires-2 : tie.Need-with-bit-requires-2
-with-bit-requires-2 c κs = search needs
+put-number-requires-2 : tie.Need-put-number-requires-2
+put-number-requires-2 c κs = (search needs, c .bit-where .ensures .1)
 
 returns : tie.Need-returns
-returns c = rw (c .with-bit .ensures, c .before .bit-at3 .ensures, c .before .before .bit-at2 .ensures, c .before .before .before .bit-at .ensures, c .before .before .before .before .if1 .taken)
+returns c = rw (c .put-number .ensures, c .before .until-mark .ensures .0, c .before .before .if1 .taken)
 
 returns-2 : tie.Need-returns-2
-returns-2 c = rw (c .with-bit2 .ensures, c .before .bit-at4 .ensures, c .before .before .if1 .left)
+returns-2 c = rw (c .put-number2 .ensures, c .before .bit-where .ensures .0, c .before .before .if1 .left)
 
 pub back-word-spec : {M : Type 1} → statement M
 back-word-spec =
     tie.close
     (tie.spec
-    bit-at-requires
-    bit-at-requires-2
-    bit-at-requires-3
-    with-bit-requires
-    bit-at-requires-4
-    with-bit-requires-2
+    until-mark-requires
+    put-number-requires
+    bit-where-requires
+    put-number-requires-2
     returns
     returns-2)

@@ -29,7 +29,7 @@ sub-bit-at : tie.Need-sub-bit-at Inv-loop μ-loop
 sub-bit-at c = omega arith
 
 bit-at-requires : tie.Need-bit-at-requires Inv-loop μ-loop
-bit-at-requires c κs = search needs
+bit-at-requires c κs = omega arith
 
 cast-count : tie.Need-cast-count Inv-loop μ-loop
 cast-count c = search needs

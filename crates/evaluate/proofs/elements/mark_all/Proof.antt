@@ -26,7 +26,8 @@ count-selected-requires c κs =
     let p = c .before .before .before .before .before .before .before .before .before .before .before .before .before .before .before .before .before .before .before .before .before .before .before .before .before .before .args in
     let q = c .before .before .before .before .before .before .before .before .before .before .before .before .before .before .before .before .before .before .before .before .before .before .before .before .before .before .pre in
     let r = stored-after (c .before .before .before .before .before .before .before .before .before .clear .ensures) (c .before .before .before .mark-entries .ensures) in
-    (omega (arith, r .long, q .1 .1 .1 .3), table-few (p .entries) (p .kinds .now) (p .firsts .now) (p .seconds .now) (q .0) .0)
+    let h = table-few (p .entries) (p .kinds .now) (p .firsts .now) (p .seconds .now) (q .0) in
+    (omega (arith, r .long, q .1 .1 .1 .3), h .0, h .1)
 
 same-length : tie.Need-same-length
 same-length c = search needs

@@ -70,7 +70,7 @@ local-pass-requires c κs =
     let p = c .before .before .before .before .before .before .before .pre in
     let r = c .before .match .rest in
     let h = range-under (range-under (range-under (range-under (range-under (range-under (range-under (range-under (range-under (p .0 .1) (r .1)) (r .0 .1)) (r .0 .0 .1)) (r .0 .0 .0 .1)) (r .0 .0 .0 .0 .1)) (r .0 .0 .0 .0 .0 .1)) (r .0 .0 .0 .0 .0 .0 .1)) (r .0 .0 .0 .0 .0 .0 .0 .1)) (r .0 .0 .0 .0 .0 .0 .0 .0 .1) in
-    ((p .0 .0, h), rw (p .1 .1 .1 .1) (p .1 .0))
+    ((p .0 .0, h, p .0 .2), rw (p .1 .1 .1 .1) (p .1 .0))
 
 same-length : tie.Need-same-length
 same-length c = search needs

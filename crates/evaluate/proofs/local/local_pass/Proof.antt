@@ -1,91 +1,100 @@
--- `local_pass`: the elements passed have their marks. Assumes nothing.
-use Prim.Native.Nat.{ℕ, _≤_, _<_, _-_}
-use lib.ListN.{length, getD}
-use Rattle.meaning.specs.Meaning.{kindOf}
-use Rattle.evaluate.specs.Pass.{Passed, bitsOf}
-use Rattle.evaluate.specs.Steps.{localMark}
-use Rattle.evaluate.proofs.PassLaws.{before-only, ascent-start, ascent-turn, ascent-end}
-use Rattle.evaluate.proofs.StepLaws.{local-turn}
+-- `local_pass`: each kind has its gate, and kind 2 its own pass. Assumes nothing.
+use mathlib.Core.Path.{_≡_, refl}
+use Rattle.evaluate.specs.Steps.{localMark, gateMark}
+use Rattle.evaluate.proofs.KindLaws.{range-past, gate-always, gate-not, gate-or, gate-and}
+use Rattle.evaluate.proofs.PassLaws.{passed-same}
 use borrow.Author.Needs.{needs}
 use native.Mathlib.Omega.{arith}
 use Rattle.evaluate.proofs.local.local_pass.Statement.{statement}
 use Rattle.evaluate.proofs.local.local_pass.Tie as tie
 
-abbrev Inv-loop : tie.InvT-loop
-Inv-loop kind a b i labels marks₀ s₀ marks s =
-    (s ≤ length labels)
-    × Passed (length labels) i (before-only (λ s. localMark (kindOf kind) a (getD labels s 0) (bitsOf marks₀ a s) (bitsOf marks₀ b s)) s) marks₀ marks
+gate-pass-requires : tie.Need-gate-pass-requires
+gate-pass-requires c κs = search needs
 
-abbrev μ-loop : tie.MeasureT-loop
-μ-loop kind a b i labels marks₀ s₀ marks s = length labels - s
+label-pass-requires : tie.Need-label-pass-requires
+label-pass-requires c κs = search needs
 
-loop-holds : tie.Need-loop-holds Inv-loop μ-loop
-loop-holds c = (omega arith, ascent-start (c .before .before .pre .1) _)
+gate-pass-requires-2 : tie.Need-gate-pass-requires-2
+gate-pass-requires-2 c κs =
+    let p = c .before .before .before .before .pre in
+    let h = p .0 .2 (omega (arith, c .before .match .keys3)) in ((omega arith, omega arith), p .1)
 
-mul-wide : tie.Need-mul-wide Inv-loop μ-loop
-mul-wide c = omega arith
+gate-pass-requires-3 : tie.Need-gate-pass-requires-3
+gate-pass-requires-3 c κs =
+    let p = c .before .before .before .before .pre in
+    let h = p .0 .2 (omega (arith, c .before .match .keys4)) in ((omega arith, omega arith), p .1)
 
-shared-slice-read-wide : tie.Need-shared-slice-read-wide Inv-loop μ-loop
-shared-slice-read-wide c = omega arith
+gate-pass-requires-4 : tie.Need-gate-pass-requires-4
+gate-pass-requires-4 c κs =
+    let p = c .before .before .before .before .pre in
+    let r = c .before .match .rest in
+    let k = range-past (range-past (p .0 .0) (r .0 .0 .0 .1)) (r .0 .0 .1) in
+    let h = p .0 .2 k in ((omega arith, omega arith), p .1)
 
-wide-requires : tie.Need-wide-requires Inv-loop μ-loop
-wide-requires c κs = search needs
-
-mul-local-word : tie.Need-mul-local-word Inv-loop μ-loop
-mul-local-word c = omega arith
-
-slice-read-local-word : tie.Need-slice-read-local-word Inv-loop μ-loop
-slice-read-local-word c = omega arith
-
-local-word-requires : tie.Need-local-word-requires Inv-loop μ-loop
-local-word-requires c κs = omega arith
-
-mul-marks : tie.Need-mul-marks Inv-loop μ-loop
-mul-marks c = omega arith
-
-slice-write-marks : tie.Need-slice-write-marks Inv-loop μ-loop
-slice-write-marks c = omega arith
-
-add-s : tie.Need-add-s Inv-loop μ-loop
-add-s c = omega arith
-
-loop-less : tie.Need-loop-less Inv-loop μ-loop
-loop-less c = omega arith
-
-loop-again : tie.Need-loop-again Inv-loop μ-loop
-loop-again c =
-    let l = c .before .before .before .before .before .loop in
-    let p = c .before .before .before .before .before .before .before .before .args in
-    let room = c .before .before .before .before .before .before .before .before .pre .1 in
-    let t = c .before .before .before .before .loop-test .taken in (
-      omega arith,
-      rw (c .local-word .ensures, c .before .before .wide .ensures)
-          (ascent-turn room _ (l .s) _ t (local-turn (p .labels .now) (p .kind) (p .a) (p .b) (l .s) room t (l .inv .1)) (l .inv .1)),
-    )
-
-same-length : tie.Need-same-length Inv-loop μ-loop
+same-length : tie.Need-same-length
 same-length c = search needs
 
-returns : tie.Need-returns Inv-loop μ-loop
-returns c = ascent-end (c .before .before .before .before .pre .1) _ (c .before .loop .s) (c .loop-test .left) (c .before .loop .inv .1)
+returns : tie.Need-returns
+unfolding gateMark localMark
+returns c =
+    let room = c .before .before .before .before .before .before .before .pre .1 in
+    passed-same room (λ s h. rw (c .before .before .before .before .match .keys1) (gate-always _)) (c .before .before .gate-pass .ensures)
+
+same-length-2 : tie.Need-same-length-2
+same-length-2 c = search needs
+
+returns-2 : tie.Need-returns-2
+unfolding localMark
+returns-2 c =
+    let room = c .before .before .before .before .before .before .before .pre .1 in
+    passed-same room (λ s h. rw (c .before .before .before .before .match .keys2) (refl)) (c .before .before .label-pass .ensures)
+
+same-length-3 : tie.Need-same-length-3
+same-length-3 c = search needs
+
+returns-3 : tie.Need-returns-3
+unfolding gateMark localMark
+returns-3 c =
+    let room = c .before .before .before .before .before .before .before .pre .1 in
+    passed-same room (λ s h. rw (c .before .before .before .before .match .keys3) (gate-not _)) (c .before .before .gate-pass2 .ensures)
+
+same-length-4 : tie.Need-same-length-4
+same-length-4 c = search needs
+
+returns-4 : tie.Need-returns-4
+unfolding gateMark localMark
+returns-4 c =
+    let room = c .before .before .before .before .before .before .before .pre .1 in
+    passed-same room (λ s h. rw (c .before .before .before .before .match .keys4) (gate-or _ _)) (c .before .before .gate-pass3 .ensures)
+
+same-length-5 : tie.Need-same-length-5
+same-length-5 c = search needs
+
+returns-5 : tie.Need-returns-5
+unfolding gateMark localMark
+returns-5 c =
+    let r = c .before .before .before .before .match .rest in
+    let p = c .before .before .before .before .before .before .before .pre in
+    let h = range-past (range-past (range-past (range-past (p .0 .0) (r .0 .0 .0 .1)) (r .0 .0 .1)) (r .0 .1)) (r .1) in
+    let e : c .before .before .before .before .before .before .before .args .kind ≡ 5 = omega arith in
+    passed-same (p .1) (λ s h. rw e (gate-and _ _)) (c .before .before .gate-pass4 .ensures)
 
 pub local-pass-spec : {M : Type 1} → statement M
 local-pass-spec =
     tie.close
     (tie.spec
-    Inv-loop
-    μ-loop
-    loop-holds
-    mul-wide
-    shared-slice-read-wide
-    wide-requires
-    mul-local-word
-    slice-read-local-word
-    local-word-requires
-    mul-marks
-    slice-write-marks
-    add-s
-    loop-less
-    loop-again
+    gate-pass-requires
+    label-pass-requires
+    gate-pass-requires-2
+    gate-pass-requires-3
+    gate-pass-requires-4
     same-length
-    returns)
+    returns
+    same-length-2
+    returns-2
+    same-length-3
+    returns-3
+    same-length-4
+    returns-4
+    same-length-5
+    returns-5)

@@ -1,6 +1,4 @@
--- `bit_at`: a word has no bit past its width. Assumes nothing.
-use native.Mathlib.Nat.{div-eq-of-lt, lt-of-lt-of-le}
-use lib.Pow.{pow-mono}
+-- `bit_at`: a shift brings the bit down. Assumes nothing.
 use borrow.Author.Needs.{needs}
 use Rattle.evaluate.proofs.word.bit_at.Statement.{statement}
 use Rattle.evaluate.proofs.word.bit_at.Tie as tie
@@ -11,8 +9,5 @@ shr-result c = search needs
 returns : tie.Need-returns
 returns c = search needs
 
-returns-2 : tie.Need-returns-2
-returns-2 c = rw (div-eq-of-lt (lt-of-lt-of-le (c .before .fits .w .fits) (pow-mono (c .if1 .left))))
-
 pub bit-at-spec : {M : Type 1} → statement M
-bit-at-spec = tie.close (tie.spec shr-result returns returns-2)
+bit-at-spec = tie.close (tie.spec shr-result returns)
