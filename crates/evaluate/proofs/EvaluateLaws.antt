@@ -26,7 +26,7 @@ use Rattle.grammar.proofs.WhenReport.{report-numbers}
 use Rattle.grammar.proofs.Entries.{entries-count, entries-few, entries-some, entry-formed}
 use Rattle.grammar.proofs.Elements.{elements-count, levels-elements, levels-legal}
 use Rattle.meaning.specs.Marks.{words, selected, bit, bitAt}
-use Rattle.meaning.proofs.Words.{words-length}
+use Rattle.meaning.proofs.Words.{bit-small, words-length}
 use Rattle.evaluate.specs.Evaluation.{accepted, refused, judged, meantWords, evaluation, written, Evaluated, Reported, Weighed}
 use Rattle.evaluate.specs.Pass.{Marked}
 use Rattle.grammar.specs.Columns.{tableOf}
@@ -45,10 +45,6 @@ filled-take xs lent n e l h =
     ∙ subst (λ (k : ℕ). take k (xs ++ drop (length xs) lent) ≡ xs) l (take-append-seam xs (drop (length xs) lent))
 
 -- ---- the selected count is no more than there are words
-
-bit-small : (b : Bool) → bit b ≤ 1
-bit-small true = omega arith
-bit-small false = omega arith
 
 pub selected-few : (m : ℕ) (ws : List ℕ) → selected m ws ≤ length ws
 unfolding selected

@@ -25,7 +25,7 @@ use Rattle.meaning.specs.Marks.{bit, bitAt, means, mark, word, wordOf, words, s
 use Rattle.meaning.proofs.Tests.{bool-told}
 use Rattle.meaning.proofs.Reflect.{means-told}
 use Rattle.meaning.proofs.OneStep.{mark-rule, plain}
-use Rattle.meaning.proofs.Words.{word-bit, word-lt, words-length, words-at, selected-more}
+use Rattle.meaning.proofs.Words.{pred-sub, bit-small, word-bit, word-lt, words-length, words-at, selected-more}
 use Rattle.evaluate.specs.Links.{leads, Leads, Linked}
 use Rattle.evaluate.specs.Pass.{Stored, Passed, Room, bitsOf, Marked}
 use Rattle.evaluate.specs.Steps.{localMark, backMark, aheadMark, passMark, Nearest}
@@ -259,17 +259,9 @@ module _ (n : ℕ) (kinds firsts seconds : List ℕ) (rule : RuleEntries (tableO
 
 -- ---- counting
 
-bit-small : (b : Bool) → bit b ≤ 1
-bit-small true = omega arith
-bit-small false = omega arith
-
 -- One word more: its bit is counted, so no more words than were passed.
 pub count-turn : (m s count : ℕ) (ws : List ℕ) → s < length ws → count ≡ selected m (take s ws) → count ≤ s
     → (count + bit (bitAt (getD ws s 0) (m - 1)) ≡ selected m (take (s + 1) ws)) × (count + bit (bitAt (getD ws s 0) (m - 1)) ≤ s + 1)
 count-turn m s count ws l e h =
-    let p : m - 1 ≡ pred m = less-one m in
+    let p : m - 1 ≡ pred m = pred-sub m in
     (rw (add-one s, take-suc ws s 0 l, selected-more, e, p), omega (arith, bit-small (bitAt (getD ws s 0) (m - 1))))
-  where
-    less-one : (m : ℕ) → m - 1 ≡ pred m
-    less-one zero = refl
-    less-one (suc m) = omega arith

@@ -8,6 +8,7 @@ use lib.Dec.{eqb}
 use lib.Bits.{bitAnd, bitOr, bitXor, and-comm, and-zero-l, and-mask, or-shifted-r, or-block, or-zero-r, and-mod, or-mod, xor-mod}
 use lib.Pow.{pow-pos, shl-exact}
 use Rattle.meaning.specs.Marks.{bit}
+use Rattle.meaning.proofs.Words.{bit-small}
 use Rattle.evaluate.specs.Steps.{gateMark}
 use Rattle.evaluate.specs.declared.local.Gate.{Gate}
 
@@ -17,20 +18,16 @@ one-shifted i l =
     let e : (1 * 2 ^ i) % 2 ^ 64 ≡ 2 ^ i = shl-exact 1 i 64 (omega arith) (omega arith) ∙ one-mul (2 ^ i) in
     (omega (arith, pow-pos i), e)
 
-bit-lt : (b : Bool) → bit b < 2 ^ 1
-bit-lt true = omega arith
-bit-lt false = omega arith
-
 -- The machine's `(w & ((1 << i) - 1)) | ((on as u64) << i)`.
 pub masked-bit : (i w : ℕ) (on : Bool) → i < 64
     → bitOr (bitAnd w ((1 * 2 ^ i) % 2 ^ 64 - 1)) ((bit on * 2 ^ i) % 2 ^ 64) ≡ bit on * 2 ^ i + w % 2 ^ i
 masked-bit i w on l =
-    rw (one-shifted i l .1, and-mask w i, shl-exact 1 i 64 (bit-lt on) (omega arith))
+    rw (one-shifted i l .1, and-mask w i, shl-exact 1 i 64 (bit-small on) (omega arith))
     (or-shifted-r (bit on) i (w % 2 ^ i) (mod-lt w (pow-pos i)))
 
 -- The machine's `(on as u64) << i`.
 pub shifted-bit : (i : ℕ) (on : Bool) → i < 64 → (bit on * 2 ^ i) % 2 ^ 64 ≡ bit on * 2 ^ i
-shifted-bit i on l = shl-exact 1 i 64 (bit-lt on) (omega arith)
+shifted-bit i on l = shl-exact 1 i 64 (bit-small on) (omega arith)
 
 or-bits : (p q : Bool) → bitOr (bit p) (bit q) ≡ bit (p || q)
 or-bits true true = refl
@@ -105,7 +102,7 @@ where-bit false x = and-zero-l x
 
 -- A lowest bit where p, and what the passes from the first element on ask until a mark, as numbers below 2.
 pub low-where : (p : Bool) (x : ℕ) → (bitAnd (bit p) x ≡ bit (p && eqb (x % 2) 1)) × (bitAnd (bit p) x < 2)
-low-where p x = (where-bit p x, rw (where-bit p x) (bit-lt (p && eqb (x % 2) 1)))
+low-where p x = (where-bit p x, rw (where-bit p x) (bit-small (p && eqb (x % 2) 1)))
 
 pub low-until : (p : Bool) (x y z : ℕ)
     → (bitOr x (bitAnd y (bitAnd (bit p) z)) % 2 ≡ bit (eqb (x % 2) 1 || (eqb (y % 2) 1 && (p && eqb (z % 2) 1))))
