@@ -1,5 +1,4 @@
-// Bits of a mark word, for the engines and for the text: reading one is written, and proved, here
-// alone.
+// A bit of a mark word, for one pass and for the text.
 ghost use mathlib.Core.Path.{_≡_};
 ghost use Rattle.meaning.specs.Marks.{bitAt};
 

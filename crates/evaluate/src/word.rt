@@ -20,8 +20,8 @@ pub(crate) fn bit_at(w: u64, a: usize) -> bool
     (w >> a) % 2 == 1
 }
 
-// Bit a of a word, where `there`, as a number. What is put into a word right away stays one: as a test it
-// goes through the low byte of a register, and each element waits for the one before.
+// Bit a of a word, where `there`, as a number. What is put into a word right away stays one, which is
+// measured to be quicker than a test.
 pub(crate) fn bit_where(w: u64, a: usize, there: bool) -> u64
     requires { ⌜ a < 64 ⌝ }
     ensures { λ r. ⌜ (r ≡ bit (there && bitAt w a)) × (r < 2) ⌝ }

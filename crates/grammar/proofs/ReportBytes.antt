@@ -269,9 +269,10 @@ unfolding tagsBefore
 tags-begin s m zero h = let e : m ≡ 0 = omega arith in ([], rw e refl)
 tags-begin s m (suc n) h =
     ⊎-elim (λ e. ([], rw e (sym (append-nil (tagsBefore s (suc n))))))
-    (λ l. let r = tags-begin s m n (le-of-suc-le-suc l) in
-    (r .0 ++ (tagAt s (startOf s n) ∷ []),
-    ap (λ (ts : List Tag). ts ++ (tagAt s (startOf s n) ∷ [])) (r .1) ∙ append-assoc (tagsBefore s m) (r .0) (tagAt s (startOf s n) ∷ [])))
+    (λ l. let r = tags-begin s m n (le-of-suc-le-suc l) in (
+      r .0 ++ (tagAt s (startOf s n) ∷ []),
+      ap (λ (ts : List Tag). ts ++ (tagAt s (startOf s n) ∷ [])) (r .1) ∙ append-assoc (tagsBefore s m) (r .0) (tagAt s (startOf s n) ∷ []),
+    ))
     (eq-or-lt-of-le h)
 
 -- A tree's bytes begin those of another tree only where both trees are one, and then nothing follows.

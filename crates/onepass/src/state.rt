@@ -12,8 +12,8 @@ use crate::bytes::number_at;
 use crate::bytes::put_number;
 use crate::bytes::put_word;
 use crate::bytes::word_at;
-use bits::bit_at;
 use crate::word::with_bit;
+use bits::bit_at;
 
 // Whether the state is bad.
 pub(crate) fn bad_state(s: &[u8]) -> bool

@@ -10,6 +10,9 @@ fn main() {
     let mut out = [0u8; 81920];
     let m = judge::judge::put_record(&input[..n], &mut out);
     if !io::write_all(1, &out[..m]) {
-        io::write_all(2, b"polonezar: the record was not written whole; nothing may be decided by it\n");
+        io::write_all(
+            2,
+            b"polonezar: the record was not written whole; nothing may be decided by it\n",
+        );
     }
 }

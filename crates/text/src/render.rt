@@ -5,10 +5,10 @@ ghost use lib.ListN.{length};
 ghost use Rattle.meaning.specs.Marks.{bit, bitAt};
 ghost use Rattle.text.specs.Text.{refusedLine, elementLine};
 ghost use Rattle.text.specs.Rendered.{Put, Rendered, clamped, tableLines, tableText};
-use bits::bit_at;
 use crate::put::put_field;
 use crate::put::put_phrase;
 use crate::put::put_word;
+use bits::bit_at;
 
 // Puts an element's number, label, level and verdict.
 fn put_element(
