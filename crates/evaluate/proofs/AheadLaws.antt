@@ -21,9 +21,9 @@ use Rattle.meaning.proofs.Ways.{at-iff}
 use Rattle.meaning.proofs.Tests.{at-told, any-told, bool-told}
 use Rattle.evaluate.specs.Links.{leads, leadsTo}
 use Rattle.evaluate.specs.Pass.{Passed, Room, bitsOf}
-use Rattle.evaluate.specs.Steps.{ownStep, givenStep, aheadMark, Nearest}
+use Rattle.evaluate.specs.Steps.{gatherMark, ownStep, givenStep, aheadMark, Nearest}
 use Rattle.evaluate.specs.declared.ahead.Look.{Look}
-use Rattle.evaluate.specs.declared.ahead.Look.the-variants.{Any, Until, Every}
+use Rattle.evaluate.specs.declared.ahead.Look.the-variants.{Until, Every}
 use Rattle.evaluate.proofs.LinkLaws.{getD-any, leads-at, leads-down, leads-number, number-leads, leads-finds}
 use Rattle.evaluate.proofs.PassLaws.{at-put, passed-start, passed-same, passed-bit, passed-under, passed-join, passed-set}
 use Rattle.evaluate.proofs.StepLaws.{at-leads, ahead-own, anyFrom, anyFrom-end, anyFrom-next, anyFrom-all}
@@ -64,7 +64,6 @@ module _ (f : List ℕ) (t : ℕ) (l : t < length f) where
   child-is : (look : Look) → Nearest look f → (x y z : Bool)
       → ownStep look x y z (eqb (getD f (suc t) (length f)) t) ≡ ownStep look x y z (anyBelow (length f) (λ c. at (leads f c) (λ u. eqb u t)))
   unfolding Nearest
-  child-is Any near x y z = refl
   child-is Until near x y z = refl
   child-is Every near x y z = ap (ownStep Every x y z) (nearest-child near)
 
@@ -117,8 +116,8 @@ module _ (f before : List ℕ) (a : ℕ) where
         more s = rw (add-one k, any-more) (or-swap (given-by k s) (at (leads f k) (λ u. eqb u s) && bitsOf before a k))
 
     pub gather-end : {after : List ℕ} (k : ℕ) → k ≡ length f → Passed (length f) i (given-by k) before after
-        → Passed (length f) i (aheadMark Any (length f) (leads f) (bitsOf before a) (bitsOf before a)) before after
-    unfolding aheadMark
+        → Passed (length f) i (gatherMark (length f) (leads f) (bitsOf before a)) before after
+    unfolding gatherMark
     gather-end k e r = rw e at r
 
 -- ---- the pass by turns

@@ -28,10 +28,10 @@ use Rattle.meaning.proofs.OneStep.{mark-rule, plain}
 use Rattle.meaning.proofs.Words.{pred-sub, bit-small, word-bit, word-lt, words-length, words-at, selected-more}
 use Rattle.evaluate.specs.Links.{leads, Leads, Linked}
 use Rattle.evaluate.specs.Pass.{Stored, Passed, Room, bitsOf, Marked}
-use Rattle.evaluate.specs.Steps.{localMark, backMark, aheadMark, passMark, Nearest}
+use Rattle.evaluate.specs.Steps.{localMark, backMark, gatherMark, aheadMark, passMark, Nearest}
 use Rattle.grammar.specs.Columns.{tableOf, entryIn}
 use Rattle.evaluate.specs.declared.ahead.Look.{Look}
-use Rattle.evaluate.specs.declared.ahead.Look.the-variants.{Any, Until, Every}
+use Rattle.evaluate.specs.declared.ahead.Look.the-variants.{Until, Every}
 use Rattle.evaluate.proofs.LinkLaws.{ups-all, lefts-all, parent-next}
 use Rattle.evaluate.proofs.PassLaws.{stored-start, stored-same, passed-same}
 use Rattle.grammar.proofs.Columns.{table-length, table-at}
@@ -73,7 +73,7 @@ gate-and false false = refl
 -- The table of passes along parents and previous siblings is the table of kinds.
 pub pass-means : (levels labels : List ℕ) (k : Kind) (l : ℕ) (a b : ℕ → Bool) (s : ℕ)
     → passMark (length levels) labels (parent levels) (previous levels) k l a b s ≡ means levels labels k l a b s
-unfolding passMark means localMark backMark aheadMark
+unfolding passMark means localMark backMark gatherMark aheadMark
 pass-means levels labels nothing l a b s = refl
 pass-means levels labels always l a b s = refl
 pass-means levels labels hasLabel l a b s = refl

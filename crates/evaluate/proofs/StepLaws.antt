@@ -18,7 +18,7 @@ use Rattle.evaluate.specs.Links.{leads, leadsTo}
 use Rattle.evaluate.specs.Pass.{Passed, Room, bitsOf}
 use Rattle.evaluate.specs.Steps.{gateMark, backStep, backMark, ownStep, givenStep, aheadMark}
 use Rattle.evaluate.specs.declared.ahead.Look.{Look}
-use Rattle.evaluate.specs.declared.ahead.Look.the-variants.{Any, Until, Every}
+use Rattle.evaluate.specs.declared.ahead.Look.the-variants.{Until, Every}
 use Rattle.evaluate.specs.declared.local.Gate.{Gate}
 use Rattle.evaluate.proofs.LinkLaws.{leads-at, leads-finds}
 use Rattle.evaluate.proofs.PassLaws.{before-only, ascent-word, passed-bit, passed-under}
@@ -82,7 +82,6 @@ pub ahead-own : {R : ℕ → ℕ → Type 0} {F : ℕ → Option ℕ} {n : ℕ} 
     → aheadMark look n F a b s ≡ ownStep look (a s) (b s)
     (anyBelow n (λ c. at (F c) (λ u. eqb u s) && givenStep look (a c) (aheadMark look n F a b c))) (anyBelow n (λ c. at (F c) (λ u. eqb u s)))
 unfolding aheadMark
-ahead-own finds Any a b s l = refl
 ahead-own finds Until a b s l = forward-step finds a b s l
 ahead-own {R} {F} {n} finds Every a b s l =
     ap (λ (q : Bool). anyBelow n (λ c. at (F c) (λ u. eqb u s)) && q) (every-none n (λ c. at (F c) (λ u. eqb u s)) a)

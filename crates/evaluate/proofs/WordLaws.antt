@@ -8,7 +8,7 @@ use lib.Dec.{eqb}
 use lib.Bits.{bitAnd, bitOr, bitXor, and-comm, and-zero-l, and-mask, or-shifted-r, or-block, or-zero-r, and-mod, or-mod, xor-mod}
 use lib.Pow.{pow-pos, shl-exact}
 use Rattle.meaning.specs.Marks.{bit}
-use Rattle.meaning.proofs.Words.{bit-small}
+use Rattle.meaning.proofs.Words.{bit-small, bit-told}
 use Rattle.evaluate.specs.Steps.{gateMark}
 use Rattle.evaluate.specs.declared.local.Gate.{Gate}
 
@@ -25,9 +25,9 @@ masked-bit i w on l =
     rw (one-shifted i l .1, and-mask w i, shl-exact 1 i 64 (bit-small on) (omega arith))
     (or-shifted-r (bit on) i (w % 2 ^ i) (mod-lt w (pow-pos i)))
 
--- The machine's `(on as u64) << i`.
-pub shifted-bit : (i : ℕ) (on : Bool) → i < 64 → (bit on * 2 ^ i) % 2 ^ 64 ≡ bit on * 2 ^ i
-shifted-bit i on l = shl-exact 1 i 64 (bit-small on) (omega arith)
+-- The machine's `on << i`, of a number below 2.
+pub shifted-number : (i n : ℕ) → i < 64 → n < 2 → (n * 2 ^ i) % 2 ^ 64 ≡ n * 2 ^ i
+shifted-number i n l h = shl-exact 1 i 64 (omega arith) (omega arith)
 
 or-bits : (p q : Bool) → bitOr (bit p) (bit q) ≡ bit (p || q)
 or-bits true true = refl
@@ -43,15 +43,19 @@ joined-bit i w p q h =
 
 -- ---- lowest bits
 
+bit-is : (p : Bool) → eqb (bit p) 1 ≡ p
+bit-is true = refl
+bit-is false = refl
+
 -- An operation that is h on bits, and goes through to lowest bits, is h on lowest bits.
-module _ (f : ℕ → ℕ → ℕ) (h : Bool → Bool → Bool) (bits : (p q : Bool) → eqb (f (bit p) (bit q)) 1 ≡ h p q)
+module _ (f : ℕ → ℕ → ℕ) (h : Bool → Bool → Bool) (bits : (p q : Bool) → f (bit p) (bit q) ≡ bit (h p q))
     (through : (x y : ℕ) → f x y % 2 ≡ f (x % 2) (y % 2)) where
   of-two : (p q : ℕ) → p < 2 → q < 2 → eqb (f p q) 1 ≡ h (eqb p 1) (eqb q 1)
-  of-two zero zero l m = bits false false
-  of-two zero (suc zero) l m = bits false true
+  of-two zero zero l m = rw (bits false false) (bit-is (h false false))
+  of-two zero (suc zero) l m = rw (bits false true) (bit-is (h false true))
   of-two zero (suc (suc q)) l m = absurd (omega arith)
-  of-two (suc zero) zero l m = bits true false
-  of-two (suc zero) (suc zero) l m = bits true true
+  of-two (suc zero) zero l m = rw (bits true false) (bit-is (h true false))
+  of-two (suc zero) (suc zero) l m = rw (bits true true) (bit-is (h true true))
   of-two (suc zero) (suc (suc q)) l m = absurd (omega arith)
   of-two (suc (suc p)) q l m = absurd (omega arith)
 
@@ -59,37 +63,27 @@ module _ (f : ℕ → ℕ → ℕ) (h : Bool → Bool → Bool) (bits : (p q : B
   of-lowest x y =
       ap (λ (n : ℕ). eqb n 1) (through x y) ∙ of-two (x % 2) (y % 2) (mod-lt x (omega arith)) (mod-lt y (omega arith))
 
-xor-bits : (p q : Bool) → eqb (bitXor (bit p) (bit q)) 1 ≡ xor p q
+xor-bits : (p q : Bool) → bitXor (bit p) (bit q) ≡ bit (xor p q)
 unfolding xor
 xor-bits true true = refl
 xor-bits true false = refl
 xor-bits false true = refl
 xor-bits false false = refl
 
-and-bits : (p q : Bool) → eqb (bitAnd (bit p) (bit q)) 1 ≡ (p && q)
+and-bits : (p q : Bool) → bitAnd (bit p) (bit q) ≡ bit (p && q)
 and-bits true true = refl
 and-bits true false = refl
 and-bits false true = refl
 and-bits false false = refl
 
-either-bits : (p q : Bool) → eqb (bitOr (bit p) (bit q)) 1 ≡ (p || q)
-either-bits true true = refl
-either-bits true false = refl
-either-bits false true = refl
-either-bits false false = refl
-
 odd-or : (x y : ℕ) → eqb (bitOr x y % 2) 1 ≡ (eqb (x % 2) 1 || eqb (y % 2) 1)
-odd-or = of-lowest bitOr _||_ either-bits (λ x y. or-mod x y 1)
+odd-or = of-lowest bitOr _||_ or-bits (λ x y. or-mod x y 1)
 
 odd-xor : (x y : ℕ) → eqb (bitXor x y % 2) 1 ≡ xor (eqb (x % 2) 1) (eqb (y % 2) 1)
 odd-xor = of-lowest bitXor xor xor-bits (λ x y. xor-mod x y 1)
 
 odd-and : (x y : ℕ) → eqb (bitAnd x y % 2) 1 ≡ (eqb (x % 2) 1 && eqb (y % 2) 1)
 odd-and = of-lowest bitAnd _&&_ and-bits (λ x y. and-mod x y 1)
-
-odd-bit : (p : Bool) → eqb (bit p % 2) 1 ≡ p
-odd-bit true = refl
-odd-bit false = refl
 
 two-bit : (q : ℕ) → q < 2 → q ≡ bit (eqb q 1)
 two-bit zero h = refl
@@ -110,13 +104,9 @@ pub low-until : (p : Bool) (x y z : ℕ)
 low-until p x y z =
     let h : bitOr x (bitAnd y (bitAnd (bit p) z)) % 2 < 2 = mod-lt (bitOr x (bitAnd y (bitAnd (bit p) z))) (omega arith) in (
       two-bit (bitOr x (bitAnd y (bitAnd (bit p) z)) % 2) h
-          ∙ rw (odd-or x (bitAnd y (bitAnd (bit p) z)), odd-and y (bitAnd (bit p) z), where-bit p z, odd-bit (p && eqb (z % 2) 1)),
+          ∙ rw (odd-or x (bitAnd y (bitAnd (bit p) z)), odd-and y (bitAnd (bit p) z), where-bit p z, bit-told (p && eqb (z % 2) 1)),
       h,
     )
-
--- The machine's `on << i`, of a number below 2.
-pub shifted-number : (i n : ℕ) → i < 64 → n < 2 → (n * 2 ^ i) % 2 ^ 64 ≡ n * 2 ^ i
-shifted-number i n l h = shl-exact 1 i 64 (omega arith) (omega arith)
 
 -- The machine's gate, of numbers whose lowest bits are the gate's two.
 pub gate-low : (g : Gate) (x y : ℕ)
@@ -128,7 +118,7 @@ gate-low g x y =
       odd-and (bitXor x (bit (g .0))) (bitXor y (bit (g .1))),
       odd-xor x (bit (g .0)),
       odd-xor y (bit (g .1)),
-      odd-bit (g .0),
-      odd-bit (g .1),
-      odd-bit (g .2),
+      bit-told (g .0),
+      bit-told (g .1),
+      bit-told (g .2),
     )

@@ -14,7 +14,7 @@ use Rattle.meaning.specs.Meaning.{Kind, nothing, always, hasLabel, negation, di
 use Rattle.meaning.specs.Marks.{at, anyBelow, allBelow, backward, forward}
 use Rattle.evaluate.specs.Links.{leads}
 use Rattle.evaluate.specs.declared.ahead.Look.{Look}
-use Rattle.evaluate.specs.declared.ahead.Look.the-variants.{Any, Until, Every}
+use Rattle.evaluate.specs.declared.ahead.Look.the-variants.{Until, Every}
 use Rattle.evaluate.specs.declared.local.Gate.{Gate}
 
 -- Kinds 1 to 5 at an element: `label` is the entry's, `own` the element's, a and b its bits.
@@ -35,7 +35,8 @@ localMark right label own a b = false
 localMark left label own a b = false
 localMark everyChild label own a b = false
 
--- What a gate makes of two bits: their and, where the gate says so of each bit inverted, and inverted itself.
+-- What a gate makes of two bits: each is inverted where the gate says so, they are joined by and, and the outcome is inverted where the
+-- gate says so.
 unfoldable pub gateMark : Gate → (x y : Bool) → Bool
 gateMark g x y = xor (xor x (g .0) && xor y (g .1)) (g .2)
 
@@ -52,29 +53,29 @@ backMark false F a b s = at (F s) a
 
 -- ---- passes for what elements after have
 
--- Kinds 6 and 8 (Any), 10 and 12 (Until), 14 (Every) at an element: a and b are its bits, `gathered` says that an element that leads
+-- Kinds 6 and 8: the marks of the pass without turns over n elements, where an element that F leads here has a.
+unfoldable pub gatherMark : ℕ → (F : ℕ → Option ℕ) (a : ℕ → Bool) → ℕ → Bool
+gatherMark n F a s = anyBelow n (λ t. at (F t) (λ p. eqb p s) && a t)
+
+-- Kinds 10 and 12 (Until), 14 (Every) at an element: a and b are its bits, `gathered` says that an element that leads
 -- here has given, `child` that one leads here.
 abbrev pub ownStep : Look → (a b gathered child : Bool) → Bool
-ownStep Any a b gathered child = gathered
 ownStep Until a b gathered child = b || (a && gathered)
 ownStep Every a b gathered child = child && not gathered
 
 -- Whether an element gives, by its bit a and its own mark.
 abbrev pub givenStep : Look → (a own : Bool) → Bool
-givenStep Any a own = a
 givenStep Until a own = own
 givenStep Every a own = not a
 
--- The marks of such a pass over n elements.
+-- The marks of the pass by turns over n elements.
 unfoldable pub aheadMark : Look → ℕ → (F : ℕ → Option ℕ) (a b : ℕ → Bool) → ℕ → Bool
-aheadMark Any n F a b s = anyBelow n (λ t. at (F t) (λ p. eqb p s) && a t)
 aheadMark Until n F a b s = forward n F a b s
 aheadMark Every n F a b s =
     anyBelow n (λ t. at (F t) (λ p. eqb p s)) && allBelow n (λ t. not (at (F t) (λ p. eqb p s)) || a t)
 
 -- Whoever is led to is led to from the very next element: so it is of parents, and a pass asks it for kind 14 only.
 unfoldable pub Nearest : Look → List ℕ → Type 0
-Nearest Any f = Unit
 Nearest Until f = Unit
 Nearest Every f = (s t : ℕ) → leads f t ≡ some s → leads f (suc s) ≡ some s
 
@@ -89,9 +90,9 @@ passMark n labels ups lefts hasLabel label a b s = localMark hasLabel label (get
 passMark n labels ups lefts negation label a b s = localMark negation label (getD labels s 0) (a s) (b s)
 passMark n labels ups lefts disjunction label a b s = localMark disjunction label (getD labels s 0) (a s) (b s)
 passMark n labels ups lefts conjunction label a b s = localMark conjunction label (getD labels s 0) (a s) (b s)
-passMark n labels ups lefts someChild label a b s = aheadMark Any n ups a b s
+passMark n labels ups lefts someChild label a b s = gatherMark n ups a s
 passMark n labels ups lefts atParent label a b s = backMark false ups a b s
-passMark n labels ups lefts atNext label a b s = aheadMark Any n lefts a b s
+passMark n labels ups lefts atNext label a b s = gatherMark n lefts a s
 passMark n labels ups lefts atPrevious label a b s = backMark false lefts a b s
 passMark n labels ups lefts down label a b s = aheadMark Until n ups a b s
 passMark n labels ups lefts up label a b s = backMark true ups a b s

@@ -7,8 +7,7 @@ ghost use lib.ListN.{length, getD};
 ghost use Rattle.meaning.specs.Marks.{bitAt};
 ghost use Rattle.evaluate.specs.Links.{leads};
 ghost use Rattle.evaluate.specs.Pass.{Passed, Room, bitsOf};
-ghost use Rattle.evaluate.specs.declared.ahead.Look.the-variants.{Any};
-ghost use Rattle.evaluate.specs.Steps.{ownStep, givenStep, aheadMark, Nearest};
+ghost use Rattle.evaluate.specs.Steps.{gatherMark, ownStep, givenStep, aheadMark, Nearest};
 use crate::word::bit_at;
 use crate::word::bit_where;
 use crate::word::put_bit;
@@ -16,10 +15,9 @@ use crate::word::put_number;
 use crate::word::wide;
 use crate::word::with_bit;
 
-// What is asked of the elements ahead: a mark at one of them (kinds 6 and 8), at the end of a way
-// (10 and 12), at every one of at least one (14).
+// What is asked by turns of the elements ahead: a mark at the end of a way (kinds 10 and 12), at every
+// one of at least one (14).
 pub(crate) enum Look {
-    Any,
     Until,
     Every,
 }
@@ -29,7 +27,6 @@ fn own_mark(look: Look, a: bool, b: bool, gathered: bool, child: bool) -> bool
     ensures { λ r. ⌜ r ≡ ownStep look a b gathered child ⌝ }
 {
     match look {
-        Look::Any => gathered,
         Look::Until => b | (a & gathered),
         Look::Every => child & !gathered,
     }
@@ -40,7 +37,6 @@ fn given_mark(look: Look, a: bool, own: bool) -> bool
     ensures { λ r. ⌜ r ≡ givenStep look a own ⌝ }
 {
     match look {
-        Look::Any => a,
         Look::Until => own,
         Look::Every => !a,
     }
@@ -64,7 +60,7 @@ fn given_at(look: Look, a: usize, there: bool, own: bool, w: u64) -> bool
 
 // Entry i at every element, by turns from the last on: each has gathered from all that lead to it before
 // its own turn. `next` is where the element after leads.
-fn turn_pass(look: Look, a: usize, b: usize, i: usize, f: &[u16], marks: &mut [u64])
+pub(crate) fn turn_pass(look: Look, a: usize, b: usize, i: usize, f: &[u16], marks: &mut [u64])
     requires { ⌜ (a < i) × (b < i) ⌝ }
     requires { ⌜ Room (length (now f)) i (now marks) ⌝ }
     requires { ⌜ ((s : ℕ) → s < length (now f) → getD (now f) s 0 ≤ s) ⌝ }
@@ -86,11 +82,11 @@ fn turn_pass(look: Look, a: usize, b: usize, i: usize, f: &[u16], marks: &mut [u
 
 // Entry i at every element, where each gives a bit that stands there before the pass, and its mark is what
 // it has gathered. So there are no turns: from the first on, no element reads what was just stored.
-fn gather_pass(a: usize, i: usize, f: &[u16], marks: &mut [u64])
+pub(crate) fn gather_pass(a: usize, i: usize, f: &[u16], marks: &mut [u64])
     requires { ⌜ a < i ⌝ }
     requires { ⌜ Room (length (now f)) i (now marks) ⌝ }
     requires { ⌜ ((s : ℕ) → s < length (now f) → getD (now f) s 0 ≤ s) ⌝ }
-    ensures { λ _. ⌜ Passed (length (now (f .entry))) i (aheadMark Any (length (now (f .entry))) (leads (now (f .entry))) (bitsOf (now (marks .entry)) a) (bitsOf (now (marks .entry)) a)) (now (marks .entry)) (now (marks .exit)) ⌝ }
+    ensures { λ _. ⌜ Passed (length (now (f .entry))) i (gatherMark (length (now (f .entry))) (leads (now (f .entry))) (bitsOf (now (marks .entry)) a)) (now (marks .entry)) (now (marks .exit)) ⌝ }
 {
     let mut s: usize = 0;
     while s < f.len() {
@@ -98,19 +94,5 @@ fn gather_pass(a: usize, i: usize, f: &[u16], marks: &mut [u64])
         let given = bit_where(marks[s], a, p < s);
         marks[p] = put_number(marks[p], i, given);
         s += 1;
-    }
-}
-
-// Entry i at every element, by turns where they are needed.
-pub(crate) fn ahead_pass(look: Look, a: usize, b: usize, i: usize, f: &[u16], marks: &mut [u64])
-    requires { ⌜ (a < i) × (b < i) ⌝ }
-    requires { ⌜ Room (length (now f)) i (now marks) ⌝ }
-    requires { ⌜ ((s : ℕ) → s < length (now f) → getD (now f) s 0 ≤ s) ⌝ }
-    requires { ⌜ Nearest look (now f) ⌝ }
-    ensures { λ _. ⌜ Passed (length (now (f .entry))) i (aheadMark look (length (now (f .entry))) (leads (now (f .entry))) (bitsOf (now (marks .entry)) a) (bitsOf (now (marks .entry)) b)) (now (marks .entry)) (now (marks .exit)) ⌝ }
-{
-    match look {
-        Look::Any => gather_pass(a, i, f, marks),
-        _ => turn_pass(look, a, b, i, f, marks),
     }
 }

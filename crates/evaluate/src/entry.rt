@@ -10,7 +10,8 @@ ghost use Rattle.evaluate.specs.Links.{Linked};
 ghost use Rattle.evaluate.specs.Pass.{Passed, Stored, Room, bitsOf};
 ghost use Rattle.grammar.specs.Columns.{tableOf};
 use crate::ahead::Look;
-use crate::ahead::ahead_pass;
+use crate::ahead::gather_pass;
+use crate::ahead::turn_pass;
 use crate::back::back_pass;
 use crate::local::local_pass;
 use crate::word::wide;
@@ -35,15 +36,15 @@ fn mark_entry(
     ensures { λ _. ⌜ Passed (length (now (levels .entry))) i (means (now (levels .entry)) (now (labels .entry)) (kindOf kind) a (bitsOf (now (marks .entry)) a) (bitsOf (now (marks .entry)) b)) (now (marks .entry)) (now (marks .exit)) ⌝ }
 {
     match kind {
-        6 => ahead_pass(Look::Any, a, b, i, ups, marks),
+        6 => gather_pass(a, i, ups, marks),
         7 => back_pass(false, a, b, i, ups, marks),
-        8 => ahead_pass(Look::Any, a, b, i, lefts, marks),
+        8 => gather_pass(a, i, lefts, marks),
         9 => back_pass(false, a, b, i, lefts, marks),
-        10 => ahead_pass(Look::Until, a, b, i, ups, marks),
+        10 => turn_pass(Look::Until, a, b, i, ups, marks),
         11 => back_pass(true, a, b, i, ups, marks),
-        12 => ahead_pass(Look::Until, a, b, i, lefts, marks),
+        12 => turn_pass(Look::Until, a, b, i, lefts, marks),
         13 => back_pass(true, a, b, i, lefts, marks),
-        14 => ahead_pass(Look::Every, a, b, i, ups, marks),
+        14 => turn_pass(Look::Every, a, b, i, ups, marks),
         _ => local_pass(kind, a, b, i, labels, marks),
     }
 }

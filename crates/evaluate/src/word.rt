@@ -37,18 +37,18 @@ pub(crate) fn with_bit(w: u64, i: usize, on: bool) -> u64
     (w & ((1 << i) - 1)) | ((on as u64) << i)
 }
 
-// A word with bit i set too, or as it was: no mask is needed.
-pub(crate) fn put_bit(w: u64, i: usize, on: bool) -> u64
-    requires { ⌜ i < 64 ⌝ }
-    ensures { λ r. ⌜ r ≡ bitOr w (bit on * 2 ^ i) ⌝ }
-{
-    w | ((on as u64) << i)
-}
-
-// The same of a bit that is a number.
+// A word with bit i set too, or as it was, by a number below 2: no mask is needed.
 pub(crate) fn put_number(w: u64, i: usize, on: u64) -> u64
     requires { ⌜ (i < 64) × (on < 2) ⌝ }
     ensures { λ r. ⌜ r ≡ bitOr w (on * 2 ^ i) ⌝ }
 {
     w | (on << i)
+}
+
+// The same by a test.
+pub(crate) fn put_bit(w: u64, i: usize, on: bool) -> u64
+    requires { ⌜ i < 64 ⌝ }
+    ensures { λ r. ⌜ r ≡ bitOr w (bit on * 2 ^ i) ⌝ }
+{
+    put_number(w, i, on as u64)
 }

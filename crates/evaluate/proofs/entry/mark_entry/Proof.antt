@@ -7,12 +7,11 @@ use native.Mathlib.Omega.{arith}
 use Rattle.evaluate.proofs.entry.mark_entry.Statement.{statement}
 use Rattle.evaluate.proofs.entry.mark_entry.Tie as tie
 
-ahead-pass-requires : tie.Need-ahead-pass-requires
-unfolding Nearest
-ahead-pass-requires c κs =
+gather-pass-requires : tie.Need-gather-pass-requires
+gather-pass-requires c κs =
     let p = c .before .before .before .before .before .before .before .pre in
     let k = p .1 .1 .1 .0 in
-    let r = column-room (k .ups-long) (k .ups-lead) (p .1 .0) in (p .0 .2 (omega (arith, c .before .match .keys1)), (r .0, (r .1, tt)))
+    let r = column-room (k .ups-long) (k .ups-lead) (p .1 .0) in (p .0 .2 (omega (arith, c .before .match .keys1)) .0, r)
 
 back-pass-requires : tie.Need-back-pass-requires
 back-pass-requires c κs =
@@ -20,12 +19,11 @@ back-pass-requires c κs =
     let k = p .1 .1 .1 .0 in
     let r = column-room (k .ups-long) (k .ups-lead) (p .1 .0) in (p .0 .2 (omega (arith, c .before .match .keys2)), r)
 
-ahead-pass-requires-2 : tie.Need-ahead-pass-requires-2
-unfolding Nearest
-ahead-pass-requires-2 c κs =
+gather-pass-requires-2 : tie.Need-gather-pass-requires-2
+gather-pass-requires-2 c κs =
     let p = c .before .before .before .before .before .before .before .pre in
     let k = p .1 .1 .1 .0 in
-    let r = column-room (k .lefts-long) (k .lefts-lead) (p .1 .0) in (p .0 .2 (omega (arith, c .before .match .keys3)), (r .0, (r .1, tt)))
+    let r = column-room (k .lefts-long) (k .lefts-lead) (p .1 .0) in (p .0 .2 (omega (arith, c .before .match .keys3)) .0, r)
 
 back-pass-requires-2 : tie.Need-back-pass-requires-2
 back-pass-requires-2 c κs =
@@ -33,9 +31,9 @@ back-pass-requires-2 c κs =
     let k = p .1 .1 .1 .0 in
     let r = column-room (k .lefts-long) (k .lefts-lead) (p .1 .0) in (p .0 .2 (omega (arith, c .before .match .keys4)), r)
 
-ahead-pass-requires-3 : tie.Need-ahead-pass-requires-3
+turn-pass-requires : tie.Need-turn-pass-requires
 unfolding Nearest
-ahead-pass-requires-3 c κs =
+turn-pass-requires c κs =
     let p = c .before .before .before .before .before .before .before .pre in
     let k = p .1 .1 .1 .0 in
     let r = column-room (k .ups-long) (k .ups-lead) (p .1 .0) in (p .0 .2 (omega (arith, c .before .match .keys5)), (r .0, (r .1, tt)))
@@ -46,9 +44,9 @@ back-pass-requires-3 c κs =
     let k = p .1 .1 .1 .0 in
     let r = column-room (k .ups-long) (k .ups-lead) (p .1 .0) in (p .0 .2 (omega (arith, c .before .match .keys6)), r)
 
-ahead-pass-requires-4 : tie.Need-ahead-pass-requires-4
+turn-pass-requires-2 : tie.Need-turn-pass-requires-2
 unfolding Nearest
-ahead-pass-requires-4 c κs =
+turn-pass-requires-2 c κs =
     let p = c .before .before .before .before .before .before .before .pre in
     let k = p .1 .1 .1 .0 in
     let r = column-room (k .lefts-long) (k .lefts-lead) (p .1 .0) in (p .0 .2 (omega (arith, c .before .match .keys7)), (r .0, (r .1, tt)))
@@ -59,8 +57,8 @@ back-pass-requires-4 c κs =
     let k = p .1 .1 .1 .0 in
     let r = column-room (k .lefts-long) (k .lefts-lead) (p .1 .0) in (p .0 .2 (omega (arith, c .before .match .keys8)), r)
 
-ahead-pass-requires-5 : tie.Need-ahead-pass-requires-5
-ahead-pass-requires-5 c κs =
+turn-pass-requires-3 : tie.Need-turn-pass-requires-3
+turn-pass-requires-3 c κs =
     let p = c .before .before .before .before .before .before .before .pre in
     let k = p .1 .1 .1 .0 in
     let r = column-room (k .ups-long) (k .ups-lead) (p .1 .0) in (p .0 .2 (omega (arith, c .before .match .keys9)), (r .0, (r .1, ups-nearest k [] (p .1 .1 .0))))
@@ -80,7 +78,7 @@ unfolding passMark
 returns c =
     let p = c .before .before .before .before .before .before .before .before .before .before .pre in
     let k = p .1 .1 .1 .0 in
-    passed-means k _ _ _ (p .1 .0) (c .before .before .before .before .match .keys1) (k .ups-long) (c .before .before .ahead-pass .ensures)
+    passed-means k _ _ _ (p .1 .0) (c .before .before .before .before .match .keys1) (k .ups-long) (c .before .before .gather-pass .ensures)
 
 same-length-2 : tie.Need-same-length-2
 same-length-2 c = search needs
@@ -100,7 +98,7 @@ unfolding passMark
 returns-3 c =
     let p = c .before .before .before .before .before .before .before .before .before .before .pre in
     let k = p .1 .1 .1 .0 in
-    passed-means k _ _ _ (p .1 .0) (c .before .before .before .before .match .keys3) (k .lefts-long) (c .before .before .ahead-pass2 .ensures)
+    passed-means k _ _ _ (p .1 .0) (c .before .before .before .before .match .keys3) (k .lefts-long) (c .before .before .gather-pass2 .ensures)
 
 same-length-4 : tie.Need-same-length-4
 same-length-4 c = search needs
@@ -120,7 +118,7 @@ unfolding passMark
 returns-5 c =
     let p = c .before .before .before .before .before .before .before .before .before .before .pre in
     let k = p .1 .1 .1 .0 in
-    passed-means k _ _ _ (p .1 .0) (c .before .before .before .before .match .keys5) (k .ups-long) (c .before .before .ahead-pass3 .ensures)
+    passed-means k _ _ _ (p .1 .0) (c .before .before .before .before .match .keys5) (k .ups-long) (c .before .before .turn-pass .ensures)
 
 same-length-6 : tie.Need-same-length-6
 same-length-6 c = search needs
@@ -140,7 +138,7 @@ unfolding passMark
 returns-7 c =
     let p = c .before .before .before .before .before .before .before .before .before .before .pre in
     let k = p .1 .1 .1 .0 in
-    passed-means k _ _ _ (p .1 .0) (c .before .before .before .before .match .keys7) (k .lefts-long) (c .before .before .ahead-pass4 .ensures)
+    passed-means k _ _ _ (p .1 .0) (c .before .before .before .before .match .keys7) (k .lefts-long) (c .before .before .turn-pass2 .ensures)
 
 same-length-8 : tie.Need-same-length-8
 same-length-8 c = search needs
@@ -160,7 +158,7 @@ unfolding passMark
 returns-9 c =
     let p = c .before .before .before .before .before .before .before .before .before .before .pre in
     let k = p .1 .1 .1 .0 in
-    passed-means k _ _ _ (p .1 .0) (c .before .before .before .before .match .keys9) (k .ups-long) (c .before .before .ahead-pass5 .ensures)
+    passed-means k _ _ _ (p .1 .0) (c .before .before .before .before .match .keys9) (k .ups-long) (c .before .before .turn-pass3 .ensures)
 
 same-length-10 : tie.Need-same-length-10
 same-length-10 c = search needs
@@ -176,15 +174,15 @@ pub mark-entry-spec : {M : Type 1} → statement M
 mark-entry-spec =
     tie.close
     (tie.spec
-    ahead-pass-requires
+    gather-pass-requires
     back-pass-requires
-    ahead-pass-requires-2
+    gather-pass-requires-2
     back-pass-requires-2
-    ahead-pass-requires-3
+    turn-pass-requires
     back-pass-requires-3
-    ahead-pass-requires-4
+    turn-pass-requires-2
     back-pass-requires-4
-    ahead-pass-requires-5
+    turn-pass-requires-3
     local-pass-requires
     same-length
     returns

@@ -1,17 +1,17 @@
--- `put_bit`: the bit stays within the word. Assumes nothing.
-use Rattle.evaluate.proofs.WordLaws.{shifted-bit}
+-- `put_bit`: a test is a number below 2. Assumes nothing.
+use Rattle.meaning.proofs.Words.{bit-small}
 use borrow.Author.Needs.{needs}
 use Rattle.evaluate.proofs.word.put_bit.Statement.{statement}
 use Rattle.evaluate.proofs.word.put_bit.Tie as tie
 
-cast-result : tie.Need-cast-result
-cast-result c = search needs
+cast-put-number : tie.Need-cast-put-number
+cast-put-number c = search needs
 
-shl-result : tie.Need-shl-result
-shl-result c = search needs
+put-number-requires : tie.Need-put-number-requires
+put-number-requires c κs = (search needs, bit-small (c .args .on))
 
 returns : tie.Need-returns
-returns c = rw (shifted-bit (c .args .i) (c .args .on) (c .pre))
+returns c = search needs
 
 pub put-bit-spec : {M : Type 1} → statement M
-put-bit-spec = tie.close (tie.spec cast-result shl-result returns)
+put-bit-spec = tie.close (tie.spec cast-put-number put-number-requires returns)
