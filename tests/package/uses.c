@@ -1,20 +1,8 @@
 /* A program that has the package alone: every function once as it is meant to be used, and once refused. It is C and
  * C++. The last line is 'N passed, M failed'. */
+#include "check.h"
 #include <polonezar.h>
-#include <stdio.h>
 #include <string.h>
-
-static int passed, failed;
-
-static void check(int ok, const char *what)
-{
-    if (ok) {
-        passed++;
-    } else {
-        failed++;
-        printf("FAILED: %s\n", what);
-    }
-}
 
 /* Label 10; a sibling right before has label 10; the parent is such an element; label 20; both of the last two. */
 static const uint8_t rule[] = {4, 0, 2, 0, 10, 0, 4, 0, 9, 0, 0, 0, 4, 0, 7, 0, 1, 0, 4, 0, 2, 0, 20, 0,
@@ -23,21 +11,18 @@ static const uint8_t rule[] = {4, 0, 2, 0, 10, 0, 4, 0, 9, 0, 0, 0, 4, 0, 7, 0, 
 /* Some child has label 20: this looks ahead. */
 static const uint8_t ahead[] = {4, 0, 2, 0, 20, 0, 4, 0, 6, 0, 0, 0};
 
-/* Site 1 with chambers 10 (20, 30) and 10 (20); and the same tags as labels, 0 for a closing. */
-static const uint8_t report[] = {4, 0, 1, 0, 1, 0, 4, 0, 1, 0, 10, 0, 4, 0, 1, 0, 20, 0, 2, 0, 2, 0, 4, 0, 1, 0, 30, 0,
-                                 2, 0, 2, 0, 2, 0, 2, 0, 4, 0, 1, 0, 10, 0, 4, 0, 1, 0, 20, 0, 2, 0, 2, 0, 2, 0, 2, 0,
-                                 2, 0, 2, 0};
+/* The tags of report R as labels, 0 for a closing. */
 static const uint32_t tags[] = {1, 10, 20, 0, 30, 0, 0, 10, 20, 0, 0, 0};
 static const uint64_t words[] = {0, 1, 8, 0, 3, 28};
 
 static void readers(void)
 {
     struct pz_rule_reply r = pz_read_rule(rule, sizeof rule);
-    struct pz_report_reply s = pz_read_report(report, sizeof report);
+    struct pz_report_reply s = pz_read_report(report_r, sizeof report_r);
     check(r.number == PZ_ACCEPTED && r.place == 0 && r.entries == 5, "the rule is taken");
     check(s.number == PZ_ACCEPTED && s.place == 0 && s.elements == 6, "the report is taken");
     r = pz_read_rule(rule, sizeof rule - 1);
-    s = pz_read_report(report, sizeof report - 4);
+    s = pz_read_report(report_r, sizeof report_r - 4);
     check(r.number == PZ_RULE_RECORD && r.place == 24 && r.entries == 0, "a rule that is cut off");
     check(s.number == PZ_REPORT_ORDER && s.place == 56 && s.elements == 0, "a report whose root stays open");
 }
@@ -47,10 +32,10 @@ static void whole(void)
     uint64_t marks[7];
     struct pz_evaluation e;
     memset(marks, 255, sizeof marks);
-    e = pz_evaluate(rule, sizeof rule, report, sizeof report, marks, 5);
+    e = pz_evaluate(rule, sizeof rule, report_r, sizeof report_r, marks, 5);
     check(e.number == PZ_MARKS_SHORT && e.place == 0 && e.elements == 0 && e.selected == 0, "too few words");
     check(marks[0] == UINT64_MAX && marks[4] == UINT64_MAX, "a refusal writes no mark");
-    e = pz_evaluate(rule, sizeof rule, report, sizeof report, marks, 7);
+    e = pz_evaluate(rule, sizeof rule, report_r, sizeof report_r, marks, 7);
     check(e.number == PZ_ACCEPTED && e.place == 0 && e.elements == 6 && e.selected == 1, "the evaluation");
     check(memcmp(marks, words, sizeof words) == 0, "a word for each element");
     check(marks[6] == UINT64_MAX, "the word behind stays");
@@ -97,6 +82,5 @@ int main(void)
     whole();
     one_pass();
     printf("polonezar %s\n", PZ_VERSION);
-    printf("%d passed, %d failed\n", passed, failed);
-    return failed != 0;
+    return result();
 }

@@ -10,8 +10,9 @@ ghost use Rattle.evaluate.specs.Steps.{localMark, gateMark};
 use crate::word::put_bit;
 use crate::word::wide;
 
-// What kinds 1, 3, 4 and 5 make of two bits: an and whose inputs and whose output are each inverted or
-// not. With the gate of its kind an entry's loop has no branch, and takes several elements at once.
+// What kinds 1, 3, 4 and 5 make of two bits: an and, with the first bit, the second and the outcome each
+// inverted or not, in this order. With the gate of its kind an entry's loop has no branch, and takes
+// several elements at once.
 struct Gate(bool, bool, bool);
 
 // The gate at bits a and b of a word.
