@@ -1,0 +1,150 @@
+-- Laws of the functions that make a part of another, and of the rows: one for each return, over plain lists and numbers.
+-- Assumes nothing.
+use Prim.Native.Nat.{ℕ, zero, suc, _+_, _-_, _*_, _≤_, _<_}
+use native.Mathlib.Numerals.{add-one}
+use native.Mathlib.Omega.{arith}
+use mathlib.Core.Path.{_≡_, refl, ap, _∙_}
+use mathlib.Core.Bool.{Bool, true, false, cond}
+use mathlib.Core.List.{List}
+use borrow.Author.Tests.{le-leb, lt-leb, ne-eqb, eq-eqb}
+use lib.Dec.{leb, eqb}
+use lib.ListN.{set}
+use Rattle.parse.specs.declared.words.Word.{Word}
+use Rattle.parse.specs.declared.words.Word.the-variants.{At, Missing}
+use Rattle.parse.specs.declared.tree.Parsed.{Parsed}
+use Rattle.parse.specs.declared.tree.Parsed.the-variants.{Done, Bad}
+use Rattle.parse.specs.declared.tree.Head.{Head}
+use Rattle.parse.specs.declared.tree.Stepped.the-variants as T
+use Rattle.parse.specs.Rows.{noteRow, formEntries, formBytes, leafTree, noteT}
+use Rattle.parse.specs.Promises.{WordAt, leafBytes, Small, Shut, Closing, Excepted, Joined, LastStep, SteppedBy}
+
+-- ---- forms and rows
+
+module _ (form : ℕ) where
+  pub entries-one : form ≤ 9 → 1 ≡ formEntries form
+  unfolding formEntries
+  entries-one l = rw (le-leb form 9 l)
+
+  pub entries-four : form ≡ 14 → 4 ≡ formEntries form
+  unfolding formEntries
+  entries-four e = rw e
+
+  pub entries-two : 9 < form → (form ≡ 14 → ⊥) → 2 ≡ formEntries form
+  unfolding formEntries
+  entries-two l h = rw (lt-leb form 9 l, ne-eqb form 14 h)
+
+  -- A form has one to four entries of its own.
+  pub entries-few : (1 ≤ formEntries form) × (formEntries form ≤ 4)
+  unfolding formEntries
+  entries-few = go (leb form 9) (eqb form 14) where
+    go : (p q : Bool) → (1 ≤ cond p 1 (cond q 4 2)) × (cond p 1 (cond q 4 2) ≤ 4)
+    go true q = (omega arith, omega arith)
+    go false true = (omega arith, omega arith)
+    go false false = (omega arith, omega arith)
+
+  pub bytes-eight : form ≤ 5 → 8 ≡ formBytes form
+  unfolding formBytes
+  bytes-eight l = rw (le-leb form 5 l)
+
+  pub bytes-six : 5 < form → form ≤ 9 → 6 ≡ formBytes form
+  unfolding formBytes
+  bytes-six l m = rw (lt-leb form 5 l, le-leb form 9 m)
+
+  pub bytes-twelve : 9 < form → form ≤ 13 → 12 ≡ formBytes form
+  unfolding formBytes
+  bytes-twelve l m = let few : 5 < form = omega arith in rw (lt-leb form 5 few, lt-leb form 9 l, le-leb form 13 m)
+
+  pub bytes-thirty : form ≡ 14 → 30 ≡ formBytes form
+  unfolding formBytes
+  bytes-thirty e = rw e
+
+  pub bytes-fourteen : 13 < form → (form ≡ 14 → ⊥) → 14 ≡ formBytes form
+  unfolding formBytes
+  bytes-fourteen l h =
+      let few : 5 < form = omega arith in
+      let more : 9 < form = omega arith in rw (lt-leb form 5 few, lt-leb form 9 more, lt-leb form 13 l, ne-eqb form 14 h)
+
+  -- Their records have at most 8 bytes each.
+  pub bytes-few : formBytes form ≤ 8 * formEntries form
+  unfolding formBytes formEntries
+  bytes-few = go (leb form 5) (leb form 9) (leb form 13) (eqb form 14) where
+    go : (p q r e : Bool) → cond p 8 (cond q 6 (cond r 12 (cond e 30 14))) ≤ 8 * cond q 1 (cond e 4 2)
+    go true true r e = omega arith
+    go true false r true = omega arith
+    go true false r false = omega arith
+    go false true r e = omega arith
+    go false false true true = omega arith
+    go false false true false = omega arith
+    go false false false true = omega arith
+    go false false false false = omega arith
+
+module _ (rows : List ℕ) (n form a b : ℕ) where
+  pub row-filled : n ≤ 64 → set (set (set rows (3 * n - 3) form) (3 * n - 3 + 1) a) (3 * n - 3 + 2) b ≡ noteRow rows n form a b
+  unfolding noteRow
+  row-filled l =
+      let i = 3 * n - 3 in
+      let next : i + 1 ≡ suc i = add-one i in
+      let last : i + 2 ≡ suc (suc i) = omega arith in rw (le-leb n 64 l, next, last)
+
+  pub row-none : 64 < n → rows ≡ noteRow rows n form a b
+  unfolding noteRow
+  row-none l = rw (lt-leb n 64 l)
+
+-- ---- parts
+
+-- The numbers of a part that was read are small.
+pub small-of : (p : Parsed) (e : ℕ) (v : Bool) (n b : ℕ) → p ≡ Done e v n b → Small p → (n ≤ 1024) × (b ≤ 8192)
+small-of p e v n b q h = rw q at h
+
+module _ (e label k : ℕ) (rows after : List ℕ) where
+  pub leaf-true : label ≡ 0 → after ≡ noteRow rows (k + 1) 1 0 0
+      → (Done e true 1 4 ≡ Done e true 1 (leafBytes label)) × (after ≡ noteT (leafTree label) k rows)
+  unfolding leafBytes leafTree noteT
+  leaf-true z h = rw z (refl, h)
+
+pub leaf-label : (e label k : ℕ) (rows after : List ℕ) → (label ≡ 0 → ⊥) → after ≡ noteRow rows (k + 1) 2 label 0
+    → (Done e true 1 6 ≡ Done e true 1 (leafBytes label)) × (after ≡ noteT (leafTree label) k rows)
+unfolding leafBytes leafTree noteT
+leaf-label e zero k rows after z h = absurd (z refl)
+leaf-label e (suc l) k rows after z h = (refl, h)
+
+module _ (p : Parsed) (q : ℕ) (bad : p ≡ Bad q) where
+  pub except-bad : (k : ℕ) (rows after : List ℕ) → Excepted p k rows (Bad q) after
+  except-bad k rows after = rw bad
+
+  pub joined-bad : (k : ℕ) (h : Head) (rows after : List ℕ) → Joined p k h rows (Bad q) after
+  joined-bad k h rows after = rw bad
+
+  pub closing-bad : Closing p (Bad q)
+  closing-bad = rw bad
+
+  pub shut-bad : (x s : List ℕ) → Shut x s p (Bad q)
+  shut-bad x s = rw bad
+
+  pub step-bad : (form : ℕ) → SteppedBy p form (T.Stray q)
+  step-bad form = rw bad
+
+module _ (p : Parsed) (e : ℕ) (v : Bool) (n b : ℕ) (done : p ≡ Done e v n b) where
+  pub except-done : (k : ℕ) (rows after : List ℕ) → after ≡ noteRow rows (k + n + 1) 3 (k + n) 0
+      → Excepted p k rows (Done e v (n + 1) (b + 6)) after
+  except-done k rows after h = rw done (refl, h)
+
+  pub joined-done : (k : ℕ) (h : Head) (own bytes : ℕ) (rows after : List ℕ) → own ≡ formEntries (h .form) → bytes ≡ formBytes (h .form)
+      → after ≡ noteRow rows (k + n + own) (h .form) k (k + n) → Joined p k h rows (Done e v (n + h .entries + own) (b + h .bytes + bytes)) after
+  joined-done k h own bytes rows after i j f = rw (done, ← i, ← j) (refl, f)
+
+  pub closing-done : Closing p (Done e v (n + 1) (b + 4))
+  closing-done = rw done
+
+  pub shut-missing : (x s : List ℕ) (q : ℕ) (w : Word) → w ≡ Missing q → WordAt x s e w → Shut x s p (Bad q)
+  shut-missing x s q w j h = rw done (Missing q, rw j at h, refl)
+
+  pub shut-there : (x s : List ℕ) (f : ℕ) (w : Word) → w ≡ At f → WordAt x s e w → Shut x s p (Done f false n b)
+  shut-there x s f w j h = rw done (At f, rw j at h, refl)
+
+  pub step-done : (form : ℕ) → SteppedBy p form (T.Step e v (record { form = form; entries = n; bytes = b }))
+  step-done form = rw done
+
+pub last-done : (e k own bytes : ℕ) (h : Head) (rows after : List ℕ) → own ≡ formEntries (h .form) → bytes ≡ formBytes (h .form)
+    → after ≡ noteRow rows (k + own) (h .form) k 0 → LastStep e k h rows (Done e false (h .entries + own) (h .bytes + bytes)) after
+last-done e k own bytes h rows after i j f = rw (← i, ← j) (refl, f)

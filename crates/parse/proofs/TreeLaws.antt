@@ -1,0 +1,367 @@
+-- Laws of the parsers that call each other: one for each return, over plain lists and numbers. Assumes nothing.
+use Prim.Native.Nat.{ℕ, zero, suc, _+_, _*_, _≤_, _<_}
+use native.Mathlib.Omega.{arith}
+use mathlib.Core.Path.{_≡_, refl, ap, _∙_}
+use mathlib.Core.Bool.{Bool, true, false}
+use mathlib.Core.List.{List, [], _∷_, _++_}
+use borrow.Author.Tests.{ne-eqb}
+use lib.ListN.{length, drop}
+use Rattle.text.specs.Text.{ascii}
+use Rattle.records.specs.Kinds.{rowOf}
+use Rattle.paths.specs.Syntax.{Axis, child, parent, right, left, Test, except, either, begins, Path, only, _then_, Step, along, along*, passing, while, GoodT}
+use Rattle.paths.specs.Spelling.{word, sign, closing, greater, slash, star, axisWord, orWord, notWord, gap, piecesT, piecesP, piecesS, signByte}
+use Rattle.paths.specs.Translation.{neighbourKind, untilKind}
+use Rattle.paths.proofs.Machine.{Expected, byte, test, alternative, path, afterStep, run, next, choices, pick, ended, isWord, isDigit, stopped}
+use Rattle.paths.proofs.Ahead.{ahead, wordyT, wordyS, ahead-test, ahead-step}
+use Rattle.paths.proofs.Count.{weightT, weightS, whileWeight, recordLength}
+use Rattle.paths.proofs.Complete.{run-or}
+use Rattle.paths.proofs.Descent.{spelt, test-opens, test-path, step-test, path-on, path-ends}
+use Rattle.parse.specs.declared.words.Word.the-variants.{At, Missing}
+use Rattle.parse.specs.declared.begins.Begin.the-variants as B
+use Rattle.parse.specs.declared.begins.Start.the-variants as S
+use Rattle.parse.specs.declared.tree.Parsed.{Parsed}
+use Rattle.parse.specs.declared.tree.Parsed.the-variants.{Done, Bad}
+use Rattle.parse.specs.declared.tree.Head.{Head}
+use Rattle.parse.specs.declared.tree.Stepped.{Stepped}
+use Rattle.parse.specs.declared.tree.Stepped.the-variants as T
+use Rattle.parse.specs.Rows.{noteRow, formOf, ownEntries, formEntries, formBytes, leafTree, testEntries, testBytes, noteT, noteP, noteS, entriesT, entriesP}
+use Rattle.parse.specs.Promises.{headOf, OrAt, LeafAt, BeginsAt, StartAt, leafBytes, Small, Ends, Shut, Closing, Excepted, Joined, LastStep, SteppedBy, TestParsed, PathParsed, StepParsed}
+use Rattle.parse.proofs.WordLaws.{front}
+use Rattle.parse.proofs.PartLaws.{entries-few, bytes-few}
+
+-- ---- what a caller needs of a part: its counts are small, it ends within the bytes
+
+module _ (s : List ℕ) (at k : ℕ) (rows : List ℕ) where
+  pub test-small : (w : Bool) (p : Parsed) (after : List ℕ) → length s ≤ 1024 → TestParsed w s at k rows p after → Small p
+  test-small w (Done e v n b) after l (f, g, t) = (omega arith, omega arith)
+  test-small w (Bad q) after l h = tt
+
+  pub path-small : (p : Parsed) (after : List ℕ) → length s ≤ 1024 → PathParsed s at k rows p after → Small p
+  path-small (Done e v n b) after l (f, i, g, t) = (omega arith, omega arith)
+  path-small (Bad q) after l h = tt
+
+  pub test-ends : (w : Bool) (p : Parsed) (after : List ℕ) → TestParsed w s at k rows p after → Ends s p
+  test-ends w (Done e v n b) after (f, g, t) = f .within
+  test-ends w (Bad q) after h = tt
+
+  pub joined-ends : (w : Bool) (p r : Parsed) (mid after : List ℕ) (m : ℕ) (h : Head) → TestParsed w s at k rows p mid → Joined p m h mid r after → Ends s r
+  joined-ends w (Done e v n b) r mid after m h (f, g, t) (i, j) = rw i (f .within)
+  joined-ends w (Bad q) r mid after m h x i = rw i tt
+
+-- ---- `true`, label N
+
+leaf-counts : (label : ℕ)
+    → (1 ≡ weightT (λ k. 1) (leafTree label)) × (leafBytes label ≡ weightT recordLength (leafTree label)) × (true ≡ wordyT (leafTree label)) × (leafBytes label ≤ 8)
+unfolding leafTree leafBytes weightT wordyT recordLength rowOf
+leaf-counts zero = (refl, refl, refl, omega arith)
+leaf-counts (suc l) = (refl, refl, refl, omega arith)
+
+pub leaf-law : (w : Bool) (s : List ℕ) (at k e label : ℕ) (rows after : List ℕ) (r : Parsed) → LeafAt w s at e label
+    → r ≡ Done e true 1 (leafBytes label) → after ≡ noteT (leafTree label) k rows → TestParsed w s at k rows r after
+leaf-law w s at k e label rows after r x z h =
+    let (i, j, q, m) = leaf-counts label in
+    rw z (
+      record { on = x .on; within = x .within; entries-fit = omega (arith, x .on); bytes-fit = omega arith },
+      x .goes,
+      record { tree = leafTree label; labels = x .good; ends = q; reads = x .reads; counts = i; weighs = j; noted = h },
+    )
+
+-- ---- not TEST, <PATH>
+
+module _ (w : Bool) (s : List ℕ) (at k : ℕ) (rows after : List ℕ) (r : Parsed) where
+  pub except-law : (f : ℕ) (p : Parsed) (mid : List ℕ) → BeginsAt w s at (B.Not f) → TestParsed true s f k rows p mid → Excepted p k mid r after
+      → TestParsed w s at k rows r after
+  unfolding ahead piecesT wordyT weightT GoodT recordLength rowOf noteT
+  except-law f (Done e v m b) mid (l, i, q, g) (x, y, t) (z, h) =
+      rw z (
+        record { on = omega arith; within = x .within; entries-fit = omega arith; bytes-fit = omega arith },
+        λ K. g K ∙ y K,
+        record {
+          tree = except (t .tree);
+          labels = t .labels;
+          ends = t .ends;
+          reads = q ∙ ap (λ (x : List ℕ). gap w ++ (notWord ++ x)) (t .reads);
+          counts = omega (arith, t .counts);
+          weighs = omega (arith, t .weighs);
+          noted = h ∙ rw (t .noted, t .counts);
+        },
+      )
+  except-law f (Bad x) mid (l, i, q, g) (m, y) z = rw z (m, λ K. g K ∙ y K)
+
+  pub begins-law : (p : Parsed) → headOf (drop at s) ≡ 60 → PathParsed s (at + 1) (k + 1) rows p after → Closing p r → TestParsed w s at k rows r after
+  unfolding ahead piecesT wordyT weightT GoodT recordLength rowOf signByte noteT
+  begins-law (Done e v m b) h (f, i, g, t) z =
+      let (l, q) = front s at 60 h (omega arith) in
+      rw (z, i) (
+        record { on = omega arith; within = f .within; entries-fit = omega arith; bytes-fit = omega arith },
+        λ K. rw q (test-path w K (drop (at + 1) s)) ∙ g K,
+        record {
+          tree = begins (t .tree);
+          labels = t .labels;
+          ends = refl;
+          reads = q ∙ ap (_∷_ 60) (t .reads);
+          counts = omega (arith, t .counts);
+          weighs = omega (arith, t .weighs);
+          noted = t .noted;
+        },
+      )
+  begins-law (Bad x) h (m, g) z =
+      let q = front s at 60 h (omega arith) .1 in rw z (m, λ K. rw q (test-path w K (drop (at + 1) s)) ∙ g K)
+
+-- ---- (TEST or TEST)
+
+closes : (l : List ℕ) (v : Bool) (K : List Expected) → run v (byte 41 ∷ K) (41 ∷ l) ≡ run false K l
+unfolding run next choices pick isWord isDigit
+closes l v K = refl
+
+closed : (m l : List ℕ) (v : Bool) (K : List Expected) → m ≡ 41 ∷ l → run v (byte 41 ∷ K) m ≡ run false K l
+closed m l v K q = rw q (closes l v K)
+
+or-text : (w : Bool) (t u : Test) (r : List ℕ)
+    → 40 ∷ ahead false (piecesT t []) (gap (wordyT t) ++ (orWord ++ ahead true (piecesT u []) (41 ∷ r))) ≡ ahead w (piecesT (either t u) []) r
+unfolding ahead piecesT signByte
+or-text w t u r = rw (ahead-test t false (word orWord ∷ piecesT u (sign closing ∷ [])) r, ahead-test u true (sign closing ∷ []) r)
+
+either-text : (w : Bool) (t u : Test) (v : Bool) {s0 s1 s2 s3 s4 : List ℕ} (r : List ℕ) → s0 ≡ 40 ∷ s1 → s1 ≡ ahead false (piecesT t []) s2
+    → s2 ≡ gap v ++ (orWord ++ s3) → v ≡ wordyT t → s3 ≡ ahead true (piecesT u []) s4 → s4 ≡ 41 ∷ r → s0 ≡ ahead w (piecesT (either t u) []) r
+either-text w t u v r e0 e1 e2 ev e3 e4 = rw (e0, e1, e2, ev, e3, e4) (or-text w t u r)
+
+-- Both sides noted, and the whole.
+either-noted : (t u : Test) (k n m : ℕ) (rows mid next after : List ℕ) → n ≡ entriesT t → m ≡ entriesT u → mid ≡ noteT t k rows → next ≡ noteT u (k + n) mid
+    → after ≡ noteRow next (k + n + m + formEntries 4) 4 (k + n) (k + n + m) → after ≡ noteT (either t u) k rows
+unfolding noteT formEntries
+either-noted t u k n m rows mid next after i j a b c = c ∙ rw (b, a, i, j)
+
+abbrev pub orHead : (entries bytes : ℕ) → Head
+orHead n b = record { form = 4; entries = n; bytes = b }
+
+module _ (w : Bool) (s : List ℕ) (at k : ℕ) (rows : List ℕ) (h : headOf (drop at s) ≡ 40) where
+  opened : (K : List Expected) → run w (test ∷ K) (drop at s) ≡ run false (test ∷ alternative ∷ test ∷ byte 41 ∷ K) (drop (at + 1) s)
+  opened K = let q = front s at 40 h (omega arith) .1 in rw q (test-opens w K (drop (at + 1) s))
+
+  -- (Of a part that stops nothing is said of the rows, so any stand for them.)
+  pub either-left : (p : ℕ) → TestParsed false s (at + 1) k rows (Bad p) rows → TestParsed w s at k rows (Bad p) rows
+  either-left p (m, g) = (m, λ K. opened K ∙ g _)
+
+  module _ (e n b : ℕ) (v : Bool) (mid : List ℕ) (x : TestParsed false s (at + 1) k rows (Done e v n b) mid) where
+    pub either-word : (p : ℕ) → OrAt v s e (Missing p) → TestParsed w s at k rows (Bad p) rows
+    either-word p (m, g) = (m, λ K. opened K ∙ x .1 _ ∙ g _)
+
+    module _ (f : ℕ) (o : OrAt v s e (At f)) where
+      read-or : (K : List Expected) → run w (test ∷ K) (drop at s) ≡ run true (test ∷ byte 41 ∷ K) (drop f s)
+      read-or K = opened K ∙ x .1 _ ∙ or-read _ where
+        or-read : (K : List Expected) → run v (alternative ∷ K) (drop e s) ≡ run true K (drop f s)
+        or-read K = let q = o .2 in rw q (run-or K v (drop f s))
+
+      either-done : (d j c : ℕ) (u : Bool) (next after : List ℕ) (m r : Parsed) → TestParsed true s f (k + n) mid (Done d u j c) next
+          → Joined (Done d u j c) (k + n) (orHead n b) next m after → Shut (41 ∷ []) s (Done d u (j + n + 1) (c + b + 8)) r → TestParsed w s at k rows r after
+      unfolding wordyT weightT GoodT recordLength rowOf spelt
+      either-done d j c u next after m r (l, g, t) y (Missing q, (a, z), i) = rw i (a, λ K. read-or K ∙ g _ ∙ z u K)
+      either-done d j c u next after m r (l, g, t) y (At a, (k1, k2, k3), i) =
+          let left = x .2 in
+          rw i (
+            record {
+              on = omega (arith, x .0 .on, l .on, o .0);
+              within = k2;
+              entries-fit = omega (arith, x .0 .entries-fit, l .entries-fit, o .0);
+              bytes-fit = omega (arith, x .0 .bytes-fit, l .bytes-fit);
+            },
+            λ K. read-or K ∙ g _ ∙ closed (drop d s) (drop a s) u K k3,
+            record {
+              tree = either (left .tree) (t .tree);
+              labels = (left .labels, t .labels);
+              ends = refl;
+              reads = either-text w (left .tree) (t .tree) v (drop a s) (front s at 40 h (omega arith) .1) (left .reads) (o .2) (left .ends) (t .reads) k3;
+              counts = omega (arith, left .counts, t .counts);
+              weighs = omega (arith, left .weighs, t .weighs);
+              noted = either-noted (left .tree) (t .tree) k n j rows mid next after (left .counts) (t .counts) (left .noted) (t .noted) (y .1);
+            },
+          )
+
+      pub either-law : (p m r : Parsed) (next after : List ℕ) → TestParsed true s f (k + n) mid p next → Joined p (k + n) (orHead n b) next m after
+          → Shut (41 ∷ []) s m r → TestParsed w s at k rows r after
+      unfolding formEntries formBytes
+      either-law (Bad q) m r next after (l, g) z y = let i : r ≡ Bad q = rw z at y in rw i (l, λ K. read-or K ∙ g _)
+      either-law (Done d u j c) m r next after x z y = let i = z .0 in either-done d j c u next after m r x z (rw i at y)
+
+-- ---- STEP>, STEP/PATH
+
+path-stray : (l : List ℕ) (v : Bool) (K : List Expected) → (headOf l ≡ 47 → ⊥) → (headOf l ≡ 62 → ⊥) → run v (afterStep ∷ K) l ≡ stopped l
+unfolding headOf run next choices pick ended
+path-stray [] v K h1 h2 = refl
+path-stray (b ∷ l) v K h1 h2 = rw (ne-eqb b 47 h1, ne-eqb b 62 h2)
+
+-- What a step counts: what its test does, and its own, which its form tells.
+pub record Own (st : Step) : Type 0 where
+  pub own : formEntries (formOf st) ≡ ownEntries st
+  pub entries : weightS (λ k. 1) st ≡ testEntries st + formEntries (formOf st)
+  pub bytes : weightS recordLength st ≡ testBytes st + formBytes (formOf st)
+
+pub step-own : (st : Step) → Own st
+unfolding formEntries formBytes formOf ownEntries testEntries testBytes weightT whileWeight neighbourKind untilKind recordLength rowOf
+step-own (along child) = record { own = refl; entries = refl; bytes = refl }
+step-own (along parent) = record { own = refl; entries = refl; bytes = refl }
+step-own (along right) = record { own = refl; entries = refl; bytes = refl }
+step-own (along left) = record { own = refl; entries = refl; bytes = refl }
+step-own (along* child) = record { own = refl; entries = refl; bytes = refl }
+step-own (along* parent) = record { own = refl; entries = refl; bytes = refl }
+step-own (along* right) = record { own = refl; entries = refl; bytes = refl }
+step-own (along* left) = record { own = refl; entries = refl; bytes = refl }
+step-own (passing t) = record { own = refl; entries = refl; bytes = refl }
+step-own (while child t) = record { own = refl; entries = refl; bytes = refl }
+step-own (while parent t) = record { own = refl; entries = refl; bytes = refl }
+step-own (while right t) = record { own = refl; entries = refl; bytes = refl }
+step-own (while left t) = record { own = refl; entries = refl; bytes = refl }
+
+-- Counts of a rest and of what stands before it.
+added : (n a b x y : ℕ) → n ≡ x → a + b ≡ y → n + a + b ≡ x + y
+added n a b x y i j = omega arith
+
+module _ (st : Step) (h : Head) (form : h .form ≡ formOf st) (entries : h .entries ≡ testEntries st) (k : ℕ) (rows mid : List ℕ) (noted : mid ≡ noteS st k rows) where
+  last-noted : (after : List ℕ) → after ≡ noteRow mid (k + h .entries + formEntries (h .form)) (h .form) (k + h .entries) 0 → after ≡ noteP (only st) k rows
+  unfolding noteT
+  last-noted after c = c ∙ rw (noted, form, entries, step-own st .own)
+
+  more-noted : (p : Path) (n : ℕ) (next after : List ℕ) → n ≡ entriesP p → next ≡ noteP p (k + h .entries) mid
+      → after ≡ noteRow next (k + h .entries + n + formEntries (h .form)) (h .form) (k + h .entries) (k + h .entries + n) → after ≡ noteP (_then_ st p) k rows
+  unfolding noteT
+  more-noted p n next after i d c = c ∙ rw (d, noted, form, entries, i, step-own st .own)
+
+module _ (s : List ℕ) (at k e : ℕ) (rows mid : List ℕ) (v : Bool) (h : Head) (x : StepParsed s at k rows (T.Step e v h) mid) where
+  pub path-bad : (headOf (drop e s) ≡ 47 → ⊥) → (headOf (drop e s) ≡ 62 → ⊥) → PathParsed s at k rows (Bad e) rows
+  path-bad h1 h2 = (x .0 .within, λ K. x .1 K ∙ path-stray (drop e s) v K h1 h2)
+
+  on-read : headOf (drop e s) ≡ 47 → (K : List Expected) → run v (afterStep ∷ K) (drop e s) ≡ run false (path ∷ K) (drop (e + 1) s)
+  on-read c K = let q = front s e 47 c (omega arith) .1 in rw q (path-on v K (drop (e + 1) s))
+
+  end-read : headOf (drop e s) ≡ 62 → (K : List Expected) → run v (afterStep ∷ K) (drop e s) ≡ run false K (drop (e + 1) s)
+  end-read c K = let q = front s e 62 c (omega arith) .1 in rw q (path-ends v K (drop (e + 1) s))
+
+  pub path-last : (r : Parsed) (after : List ℕ) → headOf (drop e s) ≡ 62 → LastStep (e + 1) (k + h .entries) h mid r after → PathParsed s at k rows r after
+  unfolding ahead piecesT wordyT weightT GoodT signByte
+  path-last r after c (z, y) =
+      let (l, q) = front s e 62 c (omega arith) in
+      let t = x .2 in
+      let o = step-own (t .tree) in
+      let same = t .is-form in
+      rw z (
+        record {
+          on = omega (arith, x .0 .on);
+          within = omega arith;
+          entries-fit = omega (arith, x .0 .entries-fit);
+          bytes-fit = omega (arith, x .0 .bytes-fit, bytes-few (h .form));
+        },
+        refl,
+        λ K. x .1 K ∙ end-read c K,
+        record {
+          tree = only (t .tree);
+          labels = t .labels;
+          reads = t .reads ∙ rw (q, ahead-step (t .tree) false (sign greater ∷ []) (drop (e + 1) s));
+          counts = rw (same, t .counts, o .entries);
+          weighs = rw (same, t .weighs, o .bytes);
+          noted = last-noted (t .tree) h same (t .counts) k rows mid (t .noted) after y;
+        },
+      )
+
+  pub path-more : (p r : Parsed) (next after : List ℕ) → headOf (drop e s) ≡ 47 → PathParsed s (e + 1) (k + h .entries) mid p next
+      → Joined p (k + h .entries) h next r after → PathParsed s at k rows r after
+  unfolding ahead piecesT wordyT weightT GoodT signByte
+  path-more (Bad q) r next after c (l, g) z = rw z (l, λ K. x .1 K ∙ on-read c K ∙ g K)
+  path-more (Done d u m b) r next after c (l, i, g, y) (z, f) =
+      let q = front s e 47 c (omega arith) .1 in
+      let t = x .2 in
+      let o = step-own (t .tree) in
+      let same = t .is-form in
+      rw z (
+        record {
+          on = omega (arith, x .0 .on, l .on);
+          within = l .within;
+          entries-fit = omega (arith, x .0 .entries-fit, l .entries-fit);
+          bytes-fit = omega (arith, x .0 .bytes-fit, l .bytes-fit, bytes-few (h .form));
+        },
+        i,
+        λ K. x .1 K ∙ on-read c K ∙ g K,
+        record {
+          tree = _then_ (t .tree) (y .tree);
+          labels = (t .labels, y .labels);
+          reads = t .reads ∙ rw (q, y .reads, ahead-step (t .tree) false (sign slash ∷ piecesP (y .tree) (sign greater ∷ [])) (drop d s));
+          counts = added m (h .entries) (formEntries (h .form)) _ _ (y .counts) (rw (same, t .counts, o .entries));
+          weighs = added b (h .bytes) (formBytes (h .form)) _ _ (y .weighs) (rw (same, t .weighs, o .bytes));
+          noted = more-noted (t .tree) h same (t .counts) k rows mid (t .noted) (y .tree) m next after (y .counts) (y .noted) f;
+        },
+      )
+
+-- ---- ?TEST, (AXIS?TEST)*
+
+star-closes : (l : List ℕ) (v : Bool) (K : List Expected) → run v (byte 41 ∷ byte 42 ∷ K) (41 ∷ 42 ∷ l) ≡ run false K l
+unfolding run next choices pick isWord isDigit
+star-closes l v K = refl
+
+star-closed : (m l : List ℕ) (v : Bool) (K : List Expected) → m ≡ 41 ∷ 42 ∷ l → run v (byte 41 ∷ byte 42 ∷ K) m ≡ run false K l
+star-closed m l v K q = rw q (star-closes l v K)
+
+while-text : (a : Axis) (t : Test) {s0 s1 s2 : List ℕ} (r : List ℕ) → s0 ≡ 40 ∷ (axisWord a ++ (63 ∷ s1)) → s1 ≡ ahead false (piecesT t []) s2 → s2 ≡ 41 ∷ 42 ∷ r
+    → s0 ≡ ahead false (piecesS (while a t) []) r
+unfolding ahead piecesT signByte
+while-text a t r e0 e1 e2 = rw (e0, e1, e2, ahead-test t false (sign closing ∷ sign star ∷ []) r)
+
+-- A step with a test has one entry of its own at least.
+one-own : (at n e : ℕ) → at + 1 + n ≤ e → at + (n + formEntries 5) ≤ e
+unfolding formEntries
+one-own at n e l = omega arith
+
+module _ (s : List ℕ) (at k : ℕ) (rows after : List ℕ) where
+  asked : headOf (drop at s) ≡ 63 → (K : List Expected) → run false (path ∷ K) (drop at s) ≡ run false (test ∷ afterStep ∷ K) (drop (at + 1) s)
+  asked h K = let q = front s at 63 h (omega arith) .1 in rw q (step-test false K (drop (at + 1) s))
+
+  pub passing-law : (p : Parsed) (r : Stepped) → headOf (drop at s) ≡ 63 → TestParsed false s (at + 1) k rows p after → SteppedBy p 5 r → StepParsed s at k rows r after
+  unfolding ahead piecesT wordyT GoodT signByte formOf testEntries testBytes noteT
+  passing-law (Bad q) r h (m, g) z = rw z (m, λ K. asked h K ∙ g _)
+  passing-law (Done e v m b) r h (f, g, t) z =
+      let q = front s at 63 h (omega arith) .1 in
+      rw z (
+        record { on = omega (arith, f .on); within = f .within; entries-fit = one-own at m e (f .entries-fit); bytes-fit = f .bytes-fit },
+        λ K. asked h K ∙ g _,
+        record {
+          tree = passing (t .tree);
+          labels = t .labels;
+          ends = t .ends;
+          reads = q ∙ ap (_∷_ 63) (t .reads);
+          is-form = refl;
+          counts = t .counts;
+          weighs = t .weighs;
+          noted = t .noted;
+        },
+      )
+
+  module _ (f form : ℕ) (x : StartAt s at (S.While f form)) where
+    while-done : (d j c : ℕ) (u : Bool) (m : Parsed) (r : Stepped) → TestParsed false s f k rows (Done d u j c) after → Shut (41 ∷ 42 ∷ []) s (Done d u j c) m → SteppedBy m form r
+        → StepParsed s at k rows r after
+    unfolding wordyT GoodT spelt formOf testEntries testBytes noteT
+    while-done d j c u m r (l, g, t) (Missing q, (a, y), i) z = let e : r ≡ T.Stray q = rw i at z in rw e (a, λ K. x .2 .goes K ∙ g _ ∙ y u _)
+    while-done d j c u m r (l, g, t) (At a, (k1, k2, k3), i) z =
+        let w = x .2 in
+        let e : r ≡ T.Step a false (record { form = form; entries = j; bytes = c }) = rw i at z in
+        rw e (
+          record {
+            on = omega (arith, x .0, l .on);
+            within = k2;
+            entries-fit = omega (arith, x .0, l .entries-fit, entries-few form);
+            bytes-fit = l .bytes-fit;
+          },
+          λ K. w .goes K ∙ g _ ∙ star-closed (drop d s) (drop a s) u _ k3,
+          record {
+            tree = while (w .along) (t .tree);
+            labels = t .labels;
+            ends = refl;
+            reads = while-text (w .along) (t .tree) (drop a s) (w .reads) (t .reads) k3;
+            is-form = w .is-form;
+            counts = t .counts;
+            weighs = t .weighs;
+            noted = t .noted;
+          },
+        )
+
+    pub while-law : (p m : Parsed) (r : Stepped) → TestParsed false s f k rows p after → Shut (41 ∷ 42 ∷ []) s p m → SteppedBy m form r → StepParsed s at k rows r after
+    while-law (Bad q) m r (l, g) i z = let e : r ≡ T.Stray q = rw i at z in rw e (l, λ K. x .2 .goes K ∙ g _)
+    while-law (Done d u j c) m r y i z = while-done d j c u m r y i z

@@ -1,0 +1,18 @@
+use native.Mathlib.Omega.{arith}
+use Rattle.parse.proofs.PartLaws.{entries-one, entries-two, entries-four}
+use Rattle.parse.proofs.tree.own_entries.Statement.{statement}
+use Rattle.parse.proofs.tree.own_entries.Tie as tie
+use Rattle.parse.proofs.tree.own_entries.Reads as reads
+use Rattle.parse.proofs.tree.own_entries.Lts as lts
+
+returns : tie.Need-returns
+returns c = entries-four (c .before .args .form) (c .match .keys1)
+
+returns-2 : tie.Need-returns-2
+returns-2 c = entries-one (c .before .before .args .form) (omega arith)
+
+returns-3 : tie.Need-returns-3
+returns-3 c = entries-two (c .before .before .args .form) (omega arith) (c .before .match .rest .1)
+
+pub own-entries-spec : {M : Type 1} → statement M
+own-entries-spec = tie.close (tie.spec returns returns-2 returns-3)

@@ -1,0 +1,244 @@
+-- What each function promises at a cursor, over every stack below it, and of the tree that it read. Callers of the crate use `TreeRead`
+-- alone; the rest need not be believed.
+-- Laws: proofs/Words.antt, proofs/Trees.antt, proofs/Read.antt (one result only). Assumes nothing.
+use Prim.Native.Nat.{ℕ, zero, suc, _+_, _*_, _≤_, _<_}
+use mathlib.Core.Path.{_≡_}
+use mathlib.Core.Bool.{Bool, true, false, _&&_}
+use mathlib.Core.List.{List, [], _∷_, _++_}
+use lib.ListN.{length, drop}
+use lib.Dec.{leb}
+use Rattle.text.specs.Decimal.{decimal}
+use Rattle.paths.specs.Syntax.{Axis, Test, Path, Step, GoodT, GoodP, GoodS}
+use Rattle.paths.specs.Spelling.{greater, sign, axisWord, notWord, orWord, gap, piecesT, piecesP, piecesS, textOf, Text, StopsAt}
+use Rattle.paths.specs.Translation.{neighbourKind, tableOf}
+use Rattle.paths.specs.Answer.{TextOf, bytesFor, Gets}
+use Rattle.paths.proofs.Machine.{Expected, test, lettered, alternative, number, path, axis, afterStep, byte, stopped, run}
+use Rattle.paths.proofs.Ahead.{wordyT, wordyS, ahead}
+use Rattle.paths.proofs.Count.{weightT, weightP, recordLength}
+use Rattle.paths.proofs.Descent.{Reads, Stops, spelt}
+use Rattle.parse.specs.declared.words.Word.{Word}
+use Rattle.parse.specs.declared.words.Word.the-variants.{At, Missing}
+use Rattle.parse.specs.declared.begins.Named.{Named}
+use Rattle.parse.specs.declared.begins.Named.the-variants as N
+use Rattle.parse.specs.declared.begins.Begin.{Begin}
+use Rattle.parse.specs.declared.begins.Begin.the-variants as B
+use Rattle.parse.specs.declared.begins.Start.{Start}
+use Rattle.parse.specs.declared.begins.Start.the-variants as S
+use Rattle.parse.specs.declared.tree.Parsed.{Parsed}
+use Rattle.parse.specs.declared.tree.Parsed.the-variants.{Done, Bad}
+use Rattle.parse.specs.declared.tree.Head.{Head}
+use Rattle.parse.specs.declared.tree.Stepped.{Stepped}
+use Rattle.parse.specs.declared.tree.Stepped.the-variants as T
+use Rattle.parse.specs.declared.tree.Outcome.{Outcome}
+use Rattle.parse.specs.declared.tree.Outcome.the-variants as O
+use Rattle.parse.specs.Rows.{noRows, noteRow, formOf, formEntries, formBytes, leafTree, testEntries, testBytes, noteT, noteP, noteS}
+
+-- ---- bytes, words and numbers
+
+-- The first byte, 0 where there is none.
+unfoldable pub headOf : List ℕ → ℕ
+headOf [] = 0
+headOf (b ∷ s) = b
+
+-- It is a digit from `low` to 9.
+unfoldable pub digitFrom : (low : ℕ) → List ℕ → Bool
+digitFrom low s = leb low (headOf s) && leb (headOf s) 57
+
+-- The word stands at the cursor and ends there; or reading it stops at a place.
+abbrev pub WordAt : (x s : List ℕ) (at : ℕ) → Word → Type 0
+WordAt x s at (At e) = (e ≡ at + length x) × (e ≤ length s) × (drop at s ≡ x ++ drop e s)
+WordAt x s at (Missing p) = (p ≤ length s) × ((w : Bool) (K : List Expected) → run w (spelt x K) (drop at s) ≡ stopped (drop p s))
+
+-- .. `or`, behind its space if a word stands before.
+abbrev pub OrAt : (after : Bool) (s : List ℕ) (at : ℕ) → Word → Type 0
+OrAt w s at (At e) = (at + 2 ≤ e) × (e ≤ length s) × (drop at s ≡ gap w ++ (orWord ++ drop e s))
+OrAt w s at (Missing p) = (p ≤ length s) × Stops w alternative (drop at s) (drop p s)
+
+-- A number of so many digits and this value; or no number can stand there.
+abbrev pub NumberAt : (s : List ℕ) (at digits value : ℕ) → Type 0
+NumberAt s at zero n = Stops false number (drop at s) (drop at s)
+NumberAt s at (suc k) n =
+    (at + suc k ≤ length s) × Reads false number (drop at s) true (drop (at + suc k) s)
+    × (1 ≤ n) × (n ≤ 999) × (drop at s ≡ decimal n ++ drop (at + suc k) s)
+
+-- ---- trees
+
+-- The bytes s are the text of a test, and then r; it counts so much, and is noted behind k entries.
+pub record TestIs (w : Bool) (s r : List ℕ) (behind : Bool) (entries bytes k : ℕ) (rows after : List ℕ) : Type 0 where
+  pub tree : Test
+  pub labels : GoodT tree
+  pub ends : behind ≡ wordyT tree
+  pub reads : s ≡ ahead w (piecesT tree []) r
+  pub counts : entries ≡ weightT (λ k. 1) tree
+  pub weighs : bytes ≡ weightT recordLength tree
+  pub noted : after ≡ noteT tree k rows
+
+-- .. of a path and its `>`, and then r.
+pub record PathIs (s r : List ℕ) (entries bytes k : ℕ) (rows after : List ℕ) : Type 0 where
+  pub tree : Path
+  pub labels : GoodP tree
+  pub reads : s ≡ ahead false (piecesP tree (sign greater ∷ [])) r
+  pub counts : entries ≡ weightP (λ k. 1) tree
+  pub weighs : bytes ≡ weightP recordLength tree
+  pub noted : after ≡ noteP tree k rows
+
+-- .. of a step, and then r; only its test counts and is noted.
+pub record StepIs (s r : List ℕ) (behind : Bool) (head : Head) (k : ℕ) (rows after : List ℕ) : Type 0 where
+  pub tree : Step
+  pub labels : GoodS tree
+  pub ends : behind ≡ wordyS tree
+  pub reads : s ≡ ahead false (piecesS tree []) r
+  pub is-form : head .form ≡ formOf tree
+  pub counts : head .entries ≡ testEntries tree
+  pub weighs : head .bytes ≡ testBytes tree
+  pub noted : after ≡ noteS tree k rows
+
+-- Bytes were read, at least one for each entry, and no record is longer than 8.
+pub record Fits (s : List ℕ) (at end entries bytes : ℕ) : Type 0 where
+  pub on : at < end
+  pub within : end ≤ length s
+  pub entries-fit : at + entries ≤ end
+  pub bytes-fit : bytes ≤ 8 * entries
+
+-- .. for a step, its own entries too.
+pub record HeadFits (s : List ℕ) (at end : ℕ) (head : Head) : Type 0 where
+  pub on : at < end
+  pub within : end ≤ length s
+  pub entries-fit : at + (head .entries + formEntries (head .form)) ≤ end
+  pub bytes-fit : head .bytes ≤ 8 * head .entries
+
+abbrev pub TestParsed : (after : Bool) (s : List ℕ) (at k : ℕ) (rows : List ℕ) → Parsed → List ℕ → Type 0
+TestParsed w s at k rows (Done e v n b) rows' =
+    Fits s at e n b × Reads w test (drop at s) v (drop e s) × TestIs w (drop at s) (drop e s) v n b k rows rows'
+TestParsed w s at k rows (Bad p) rows' = (p ≤ length s) × Stops w test (drop at s) (drop p s)
+
+abbrev pub PathParsed : (s : List ℕ) (at k : ℕ) (rows : List ℕ) → Parsed → List ℕ → Type 0
+PathParsed s at k rows (Done e v n b) rows' =
+    Fits s at e n b × (v ≡ false) × Reads false path (drop at s) false (drop e s) × PathIs (drop at s) (drop e s) n b k rows rows'
+PathParsed s at k rows (Bad p) rows' = (p ≤ length s) × Stops false path (drop at s) (drop p s)
+
+abbrev pub StepReads : (s : List ℕ) (behind : Bool) (r : List ℕ) → Type 0
+StepReads s v r = (K : List Expected) → run false (path ∷ K) s ≡ run v (afterStep ∷ K) r
+
+abbrev pub StepParsed : (s : List ℕ) (at k : ℕ) (rows : List ℕ) → Stepped → List ℕ → Type 0
+StepParsed s at k rows (T.Step e v head) rows' =
+    HeadFits s at e head × StepReads (drop at s) v (drop e s) × StepIs (drop at s) (drop e s) v head k rows rows'
+StepParsed s at k rows (T.Stray p) rows' = (p ≤ length s) × Stops false path (drop at s) (drop p s)
+
+-- ---- what begins at a cursor
+
+-- A test of one word, where a word stands before it and a space, or not.
+pub record Lettered (s r : List ℕ) (label : ℕ) : Type 0 where
+  pub goes : Reads false lettered s true r
+  pub good : GoodT (leafTree label)
+  pub is : (w : Bool) → gap w ++ s ≡ ahead w (piecesT (leafTree label) []) r
+
+abbrev pub LettersAt : (s : List ℕ) (at : ℕ) → Begin → Type 0
+LettersAt s at (B.Leaf e l) = (at < e) × (e ≤ length s) × Lettered (drop at s) (drop e s) l
+LettersAt s at (B.Not e) =
+    (at < e) × (e ≤ length s) × (drop at s ≡ notWord ++ drop e s) × ((K : List Expected) → run false (lettered ∷ K) (drop at s) ≡ run true (test ∷ K) (drop e s))
+LettersAt s at B.Either = ⊥
+LettersAt s at B.Path = ⊥
+LettersAt s at (B.Nothing p) = (p ≤ length s) × Stops false lettered (drop at s) (drop p s)
+
+-- A test of one word at a cursor.
+pub record LeafAt (w : Bool) (s : List ℕ) (at e label : ℕ) : Type 0 where
+  pub on : at < e
+  pub within : e ≤ length s
+  pub goes : Reads w test (drop at s) true (drop e s)
+  pub good : GoodT (leafTree label)
+  pub reads : drop at s ≡ ahead w (piecesT (leafTree label) []) (drop e s)
+
+abbrev pub BeginsAt : (after : Bool) (s : List ℕ) (at : ℕ) → Begin → Type 0
+BeginsAt w s at (B.Leaf e l) = LeafAt w s at e l
+BeginsAt w s at (B.Not e) =
+    (at < e) × (e ≤ length s) × (drop at s ≡ gap w ++ (notWord ++ drop e s)) × ((K : List Expected) → run w (test ∷ K) (drop at s) ≡ run true (test ∷ K) (drop e s))
+BeginsAt w s at B.Either = headOf (drop at s) ≡ 40
+BeginsAt w s at B.Path = headOf (drop at s) ≡ 60
+BeginsAt w s at (B.Nothing p) = (p ≤ length s) × Stops w test (drop at s) (drop p s)
+
+abbrev pub NamedAt : (x : List ℕ) (kind : ℕ) (s : List ℕ) (at : ℕ) → Named → Type 0
+NamedAt x kind s at (N.Axis e k) = (k ≡ kind) × WordAt x s at (At e)
+NamedAt x kind s at (N.None p) = WordAt x s at (Missing p)
+
+abbrev pub AxisAt : (s : List ℕ) (at : ℕ) → Named → Type 0
+AxisAt s at (N.Axis e k) = (at + 4 ≤ e) × (e ≤ length s) × ((a : Axis) × (k ≡ neighbourKind a) × (drop at s ≡ axisWord a ++ drop e s))
+AxisAt s at (N.None p) = (p ≤ length s) × Stops false axis (drop at s) (drop p s)
+
+-- `(AXIS?`, and then r.
+pub record While (s r : List ℕ) (form : ℕ) : Type 0 where
+  pub along : Axis
+  pub goes : (K : List Expected) → run false (path ∷ K) s ≡ run false (test ∷ byte 41 ∷ byte 42 ∷ afterStep ∷ K) r
+  pub reads : s ≡ 40 ∷ (axisWord along ++ (63 ∷ r))
+  pub is-form : form ≡ 8 + neighbourKind along
+
+-- A step without a test.
+abbrev pub plainHead : ℕ → Head
+plainHead form = record { form = form; entries = 0; bytes = 0 }
+
+abbrev pub StartAt : (s : List ℕ) (at : ℕ) → Start → Type 0
+StartAt s at (S.Plain e v form) = (k : ℕ) (rows : List ℕ) → StepParsed s at k rows (T.Step e v (plainHead form)) rows
+StartAt s at S.Test = headOf (drop at s) ≡ 63
+StartAt s at (S.While e form) = (at + 6 ≤ e) × (e ≤ length s) × While (drop at s) (drop e s) form
+StartAt s at (S.Stray p) = (p ≤ length s) × Stops false path (drop at s) (drop p s)
+
+-- ---- what is made of a part
+
+-- The bytes of a record of a test of one word.
+unfoldable pub leafBytes : ℕ → ℕ
+leafBytes zero = 4
+leafBytes (suc n) = 6
+
+abbrev pub Small : Parsed → Type 0
+Small (Done e v n b) = (n ≤ 1024) × (b ≤ 8192)
+Small (Bad p) = Unit {0}
+
+abbrev pub Ends : List ℕ → Parsed → Type 0
+Ends s (Done e v n b) = e ≤ length s
+Ends s (Bad p) = Unit {0}
+
+abbrev pub closedBy : Word → (entries bytes : ℕ) → Parsed
+closedBy (At e) n b = Done e false n b
+closedBy (Missing p) n b = Bad p
+
+abbrev pub Shut : (x s : List ℕ) → Parsed → Parsed → Type 0
+Shut x s (Done e v n b) r = (k : Word) × WordAt x s e k × (r ≡ closedBy k n b)
+Shut x s (Bad p) r = r ≡ Bad p
+
+abbrev pub Closing : Parsed → Parsed → Type 0
+Closing (Done e v n b) r = r ≡ Done e v (n + 1) (b + 4)
+Closing (Bad p) r = r ≡ Bad p
+
+abbrev pub Excepted : Parsed → (k : ℕ) (rows : List ℕ) → Parsed → List ℕ → Type 0
+Excepted (Done e v n b) k rows r rows' = (r ≡ Done e v (n + 1) (b + 6)) × (rows' ≡ noteRow rows (k + n + 1) 3 (k + n) 0)
+Excepted (Bad p) k rows r rows' = r ≡ Bad p
+
+abbrev pub Joined : Parsed → (k : ℕ) → Head → (rows : List ℕ) → Parsed → List ℕ → Type 0
+Joined (Done e v n b) k h rows r rows' =
+    (r ≡ Done e v (n + h .entries + formEntries (h .form)) (b + h .bytes + formBytes (h .form)))
+    × (rows' ≡ noteRow rows (k + n + formEntries (h .form)) (h .form) k (k + n))
+Joined (Bad p) k h rows r rows' = r ≡ Bad p
+
+abbrev pub LastStep : (e k : ℕ) → Head → (rows : List ℕ) → Parsed → List ℕ → Type 0
+LastStep e k h rows r rows' =
+    (r ≡ Done e false (h .entries + formEntries (h .form)) (h .bytes + formBytes (h .form)))
+    × (rows' ≡ noteRow rows (k + formEntries (h .form)) (h .form) k 0)
+
+abbrev pub SteppedBy : Parsed → (form : ℕ) → Stepped → Type 0
+SteppedBy (Done e v n b) form r = r ≡ T.Step e v (record { form = form; entries = n; bytes = b })
+SteppedBy (Bad p) form r = r ≡ T.Stray p
+
+-- ---- the text
+
+-- The bytes are the text of a tree, which counts so much and is noted; or they stop being a text at the place.
+abbrev pub Read : (s rows : List ℕ) → Outcome → List ℕ → Type 0
+Read s rows (O.Text n b) rows' =
+    (t : Test) × GoodT t × (s ≡ textOf t) × (n ≡ length (tableOf t)) × (b ≡ length (bytesFor t)) × (rows' ≡ noteT t 0 rows)
+Read s rows (O.Stopped p) rows' = (Text s → ⊥) × StopsAt s p
+
+-- The string has 1 to 1,024 bytes and is the text of a tree: so many entries, so many bytes of rule, and the rows of the tree. Or it gets
+-- 13 at the place, whatever the room, and no row is filled.
+abbrev pub TreeRead : (s : List ℕ) → Outcome → (rows : List ℕ) → Type 0
+TreeRead s (O.Text n b) rows =
+    (t : Test) × TextOf s t × (n ≡ length (tableOf t)) × (b ≡ length (bytesFor t)) × (rows ≡ noteT t 0 noRows)
+TreeRead s (O.Stopped p) rows = ((room : ℕ) → Gets s room 13 p []) × (rows ≡ noRows)

@@ -1,0 +1,131 @@
+-- The table in which reading a text notes its tree. A row has three numbers, its form and two more; rows count from 1, and there are 64.
+-- A part of the text stands in the row that is the number of entries before the part and in it, so every part has a row of its own, below
+-- the row of each part that it stands in.
+--
+--   form      part of the text          first number         second number
+--   1         true                      0                    0
+--   2         label N                   N                    0
+--   3         not TEST                  row of the test      0
+--   4         (TEST or TEST)            row of the left      row of the right
+--   5         ?TEST/..                  row of the test      row of the rest of the path, 0 where the step is the last
+--   6 to 9    AXIS/..                   (not used)           as for 5
+--   10 to 13  AXIS*/..                  (not used)           as for 5
+--   14 to 17  (AXIS?TEST)*/..           row of the test      as for 5
+--
+-- Four forms with an axis are child, parent, right, left; a test <PATH> is its path, and a path is its first step.
+-- Laws: proofs/Held.antt. Assumes nothing.
+use Prim.Native.Nat.{ℕ, zero, suc, _+_, _-_, _*_, _≤_, _<_}
+use mathlib.Core.Path.{_≡_}
+use mathlib.Core.Bool.{cond}
+use mathlib.Core.List.{List, [], _∷_}
+use lib.Dec.{leb, eqb}
+use lib.ListN.{getD, replicate}
+use lib.Seq.{sets}
+use Rattle.paths.specs.Syntax.{Test, everywhere, labelled, except, either, begins, Path, only, _then_, Step, along, along*, passing, while}
+use Rattle.paths.specs.Translation.{neighbourKind, untilKind}
+use Rattle.paths.proofs.Count.{weightT, weightP, whileWeight, recordLength}
+
+-- A table without rows.
+abbrev pub noRows : List ℕ
+noRows = replicate 192 0
+
+-- The table with row n filled, where there is such a row.
+unfoldable pub noteRow : List ℕ → (n form a b : ℕ) → List ℕ
+noteRow rows n form a b = cond (leb n 64) (sets rows (3 * n - 3) (form ∷ a ∷ b ∷ [])) rows
+
+-- The form of a step.
+unfoldable pub formOf : Step → ℕ
+formOf (along x) = neighbourKind x
+formOf (along* x) = untilKind x
+formOf (passing t) = 5
+formOf (while x t) = 8 + neighbourKind x
+
+-- How many entries a step has besides those of its test.
+unfoldable pub ownEntries : Step → ℕ
+ownEntries (along x) = 1
+ownEntries (along* x) = 2
+ownEntries (passing t) = 1
+ownEntries (while x t) = whileWeight (λ k. 1) x
+
+-- .. and how many bytes their records have; both by the form alone, `or` and the steps.
+unfoldable pub formEntries : ℕ → ℕ
+formEntries form = cond (leb form 9) 1 (cond (eqb form 14) 4 2)
+
+unfoldable pub formBytes : ℕ → ℕ
+formBytes form = cond (leb form 5) 8 (cond (leb form 9) 6 (cond (leb form 13) 12 (cond (eqb form 14) 30 14)))
+
+-- A test of one word: `true` for 0, else `label N`.
+unfoldable pub leafTree : ℕ → Test
+leafTree zero = everywhere
+leafTree (suc n) = labelled (suc n)
+
+-- How many entries a test, a path or the test of a step has.
+abbrev pub entriesT : Test → ℕ
+entriesT t = weightT (λ k. 1) t
+
+abbrev pub entriesP : Path → ℕ
+entriesP p = weightP (λ k. 1) p
+
+unfoldable pub testEntries : Step → ℕ
+testEntries (along x) = 0
+testEntries (along* x) = 0
+testEntries (passing t) = entriesT t
+testEntries (while x t) = entriesT t
+
+-- .. and how many bytes their records have.
+unfoldable pub testBytes : Step → ℕ
+testBytes (along x) = 0
+testBytes (along* x) = 0
+testBytes (passing t) = weightT recordLength t
+testBytes (while x t) = weightT recordLength t
+
+-- The table with a tree noted behind k entries; of a path, the closing "true" among these.
+unfoldable mutual
+  pub noteT : Test → (k : ℕ) → List ℕ → List ℕ
+  noteT everywhere k rows = noteRow rows (k + 1) 1 0 0
+  noteT (labelled l) k rows = noteRow rows (k + 1) 2 l 0
+  noteT (except t) k rows = let n = k + entriesT t in noteRow (noteT t k rows) (n + 1) 3 n 0
+  noteT (either t u) k rows =
+      let m = k + entriesT t in let n = m + entriesT u in noteRow (noteT u m (noteT t k rows)) (n + 1) 4 m n
+  noteT (begins p) k rows = noteP p (k + 1) rows
+
+  pub noteP : Path → (k : ℕ) → List ℕ → List ℕ
+  noteP (only st) k rows =
+      let m = k + testEntries st in noteRow (noteS st k rows) (m + ownEntries st) (formOf st) m 0
+  noteP (_then_ st p) k rows =
+      let m = k + testEntries st in
+      let n = m + entriesP p in noteRow (noteP p m (noteS st k rows)) (n + ownEntries st) (formOf st) m n
+
+  -- .. with the test of a step noted, if it has one.
+  pub noteS : Step → (k : ℕ) → List ℕ → List ℕ
+  noteS (along x) k rows = rows
+  noteS (along* x) k rows = rows
+  noteS (passing t) k rows = noteT t k rows
+  noteS (while x t) k rows = noteT t k rows
+
+-- Row n is there, with these numbers.
+pub record Row (rows : List ℕ) (n form a b : ℕ) : Type 0 where
+  pub there : 1 ≤ n
+  pub is-form : getD rows (3 * n - 3) 0 ≡ form
+  pub is-a : getD rows (3 * n - 2) 0 ≡ a
+  pub is-b : getD rows (3 * n - 1) 0 ≡ b
+
+-- A test stands in row n, and all that it is made of in rows below.
+module _ (rows : List ℕ) where
+  unfoldable mutual
+    pub HeldT : Test → ℕ → Type 0
+    HeldT everywhere n = Row rows n 1 0 0
+    HeldT (labelled l) n = Row rows n 2 l 0
+    HeldT (except t) n = (a : ℕ) × (a < n) × Row rows n 3 a 0 × HeldT t a
+    HeldT (either t u) n = (a : ℕ) × (b : ℕ) × (a < n) × (b < n) × Row rows n 4 a b × HeldT t a × HeldT u b
+    HeldT (begins p) n = HeldP p n
+
+    pub HeldP : Path → ℕ → Type 0
+    HeldP (only st) n = HeldS st n 0
+    HeldP (_then_ st p) n = (b : ℕ) × (b < n) × HeldS st n b × HeldP p b
+
+    pub HeldS : Step → (n rest : ℕ) → Type 0
+    HeldS (along x) n b = (a : ℕ) × Row rows n (formOf (along x)) a b
+    HeldS (along* x) n b = (a : ℕ) × Row rows n (formOf (along* x)) a b
+    HeldS (passing t) n b = (a : ℕ) × (a < n) × Row rows n (formOf (passing t)) a b × HeldT t a
+    HeldS (while x t) n b = (a : ℕ) × (a < n) × Row rows n (formOf (while x t)) a b × HeldT t a

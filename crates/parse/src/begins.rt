@@ -1,0 +1,201 @@
+// What begins at a cursor. None of these functions calls a parser.
+ghost use mathlib.Core.Path.{_≡_};
+ghost use Prim.Native.Nat.{_≤_};
+ghost use lib.ListN.{length, drop};
+ghost use Rattle.parse.specs.Promises.{headOf, OrAt, LettersAt, BeginsAt, NamedAt, AxisAt, StartAt};
+use crate::words::Word;
+use crate::words::byte_at;
+use crate::words::number_at;
+use crate::words::word_at;
+
+// An axis: its end, and the kind of one step along it.
+pub(crate) enum Named {
+    Axis(usize, u16),
+    None(usize),
+}
+
+// What a test begins with: it is `true` or `label N` (its end, and N or 0); `not` (its end); `(`; `<`;
+// or a place.
+pub(crate) enum Begin {
+    Leaf(usize, u16),
+    Not(usize),
+    Either,
+    Path,
+    Nothing(usize),
+}
+
+// What a step begins with: it is AXIS or AXIS* (its end, whether a word ends there, its form); `?`;
+// `(AXIS?` (its end and the step's form); or a place.
+pub(crate) enum Start {
+    Plain(usize, bool, u16),
+    Test,
+    While(usize, u16),
+    Stray(usize),
+}
+
+// `or`, behind a space where a word stands before.
+pub(crate) fn or_at(s: &[u8], at: usize, after: bool) -> Word
+    requires { ⌜ at ≤ length (now s) ⌝ }
+    ensures { λ r. ⌜ OrAt after (now (s .entry)) at r ⌝ }
+{
+    if after {
+        word_at(s, at, b" or")
+    } else {
+        word_at(s, at, b"or")
+    }
+}
+
+fn label_at(s: &[u8], at: usize) -> Begin
+    requires { ⌜ (at ≤ length (now s)) × (headOf (drop at (now s)) ≡ 108) ⌝ }
+    ensures { λ r. ⌜ LettersAt (now (s .entry)) at r ⌝ }
+{
+    match word_at(s, at, b"label ") {
+        Word::Missing(p) => Begin::Nothing(p),
+        Word::At(e) => {
+            let n = number_at(s, e);
+            if n.digits == 0 {
+                Begin::Nothing(e)
+            } else {
+                Begin::Leaf(e + n.digits, n.value)
+            }
+        }
+    }
+}
+
+fn true_at(s: &[u8], at: usize) -> Begin
+    requires { ⌜ (at ≤ length (now s)) × (headOf (drop at (now s)) ≡ 116) ⌝ }
+    ensures { λ r. ⌜ LettersAt (now (s .entry)) at r ⌝ }
+{
+    match word_at(s, at, b"true") {
+        Word::Missing(p) => Begin::Nothing(p),
+        Word::At(e) => Begin::Leaf(e, 0),
+    }
+}
+
+fn not_at(s: &[u8], at: usize) -> Begin
+    requires { ⌜ (at ≤ length (now s)) × (headOf (drop at (now s)) ≡ 110) ⌝ }
+    ensures { λ r. ⌜ LettersAt (now (s .entry)) at r ⌝ }
+{
+    match word_at(s, at, b"not") {
+        Word::Missing(p) => Begin::Nothing(p),
+        Word::At(e) => Begin::Not(e),
+    }
+}
+
+// A test that begins with a letter.
+fn letters_at(s: &[u8], at: usize) -> Begin
+    requires { ⌜ at ≤ length (now s) ⌝ }
+    ensures { λ r. ⌜ LettersAt (now (s .entry)) at r ⌝ }
+{
+    let b = byte_at(s, at);
+    if b == 116 {
+        return true_at(s, at);
+    }
+    if b == 108 {
+        return label_at(s, at);
+    }
+    if b == 110 {
+        return not_at(s, at);
+    }
+    Begin::Nothing(at)
+}
+
+// A test: its first letter stands behind a space where a word stands before.
+pub(crate) fn begins_at(s: &[u8], at: usize, after: bool) -> Begin
+    requires { ⌜ at ≤ length (now s) ⌝ }
+    ensures { λ r. ⌜ BeginsAt after (now (s .entry)) at r ⌝ }
+{
+    let b = byte_at(s, at);
+    if b == 40 {
+        return Begin::Either;
+    }
+    if b == 60 {
+        return Begin::Path;
+    }
+    if !after {
+        return letters_at(s, at);
+    }
+    if b == 32 {
+        return letters_at(s, at + 1);
+    }
+    Begin::Nothing(at)
+}
+
+// A word that names an axis, as its kind.
+fn named_at(s: &[u8], at: usize, word: &[u8], kind: u16) -> Named
+    requires { ⌜ at ≤ length (now s) ⌝ }
+    ensures { λ r. ⌜ NamedAt (now (word .entry)) kind (now (s .entry)) at r ⌝ }
+{
+    match word_at(s, at, word) {
+        Word::Missing(p) => Named::None(p),
+        Word::At(e) => Named::Axis(e, kind),
+    }
+}
+
+fn axis_at(s: &[u8], at: usize) -> Named
+    requires { ⌜ at ≤ length (now s) ⌝ }
+    ensures { λ r. ⌜ AxisAt (now (s .entry)) at r ⌝ }
+{
+    let b = byte_at(s, at);
+    if b == 99 {
+        return named_at(s, at, b"child", 6);
+    }
+    if b == 112 {
+        return named_at(s, at, b"parent", 7);
+    }
+    if b == 114 {
+        return named_at(s, at, b"right", 8);
+    }
+    if b == 108 {
+        return named_at(s, at, b"left", 9);
+    }
+    Named::None(at)
+}
+
+// AXIS or AXIS*
+fn plain_at(s: &[u8], at: usize) -> Start
+    requires { ⌜ (at ≤ length (now s)) × (headOf (drop at (now s)) ≡ 63 → ⊥) × (headOf (drop at (now s)) ≡ 40 → ⊥) ⌝ }
+    ensures { λ r. ⌜ StartAt (now (s .entry)) at r ⌝ }
+{
+    match axis_at(s, at) {
+        Named::None(p) => Start::Stray(p),
+        Named::Axis(e, kind) => {
+            if byte_at(s, e) == 42 {
+                Start::Plain(e + 1, false, kind + 4)
+            } else {
+                Start::Plain(e, true, kind)
+            }
+        }
+    }
+}
+
+// (AXIS?
+fn while_at(s: &[u8], at: usize) -> Start
+    requires { ⌜ (at ≤ length (now s)) × (headOf (drop at (now s)) ≡ 40) ⌝ }
+    ensures { λ r. ⌜ StartAt (now (s .entry)) at r ⌝ }
+{
+    match axis_at(s, at + 1) {
+        Named::None(p) => Start::Stray(p),
+        Named::Axis(e, kind) => {
+            if byte_at(s, e) == 63 {
+                Start::While(e + 1, kind + 8)
+            } else {
+                Start::Stray(e)
+            }
+        }
+    }
+}
+
+pub(crate) fn start_at(s: &[u8], at: usize) -> Start
+    requires { ⌜ at ≤ length (now s) ⌝ }
+    ensures { λ r. ⌜ StartAt (now (s .entry)) at r ⌝ }
+{
+    let b = byte_at(s, at);
+    if b == 63 {
+        return Start::Test;
+    }
+    if b == 40 {
+        return while_at(s, at);
+    }
+    plain_at(s, at)
+}

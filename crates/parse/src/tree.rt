@@ -1,0 +1,323 @@
+// The parsers: test and path call each other, and the bytes left fall with every call. Each answers
+// where its part ends and what it counts, and notes the part in the lent rows; k is the number of
+// entries before the part. Counts have 16 bits, so that the deepest text needs little stack.
+ghost use mathlib.Core.Path.{_≡_};
+ghost use mathlib.Core.Bool.{Bool, true, false};
+ghost use Prim.Native.Nat.{ℕ, _+_, _*_, _-_, _<_, _≤_};
+ghost use lib.ListN.{length, drop};
+ghost use Rattle.parse.specs.declared.tree.Parsed.the-variants.{Done};
+ghost use Rattle.parse.specs.Rows.{noteRow, formEntries, formBytes, leafTree, noteT};
+ghost use Rattle.parse.specs.Promises.{headOf, leafBytes, Small, Ends, Shut, Closing, Excepted, Joined, LastStep, SteppedBy, TestParsed, PathParsed, StepParsed, Read, TreeRead};
+use crate::begins::Begin;
+use crate::begins::Start;
+use crate::begins::begins_at;
+use crate::begins::or_at;
+use crate::begins::start_at;
+use crate::words::Word;
+use crate::words::byte_at;
+use crate::words::word_at;
+
+// A test or a path: its end, whether a word or number ends there, its entries, its rule's bytes; or
+// the place where it stops.
+pub(crate) enum Parsed {
+    Done(u16, bool, u16, u16),
+    Bad(u16),
+}
+
+// What a whole begins with: its form, and the entries and bytes of its first part, 0 where it has none.
+pub(crate) struct Head {
+    pub form: u16,
+    pub entries: u16,
+    pub bytes: u16,
+}
+
+// A step: its end, whether a word or number ends there, its form and what its test counts; or the
+// place where it stops.
+pub(crate) enum Stepped {
+    Step(u16, bool, Head),
+    Stray(u16),
+}
+
+// A byte string as a text: how many entries it has and how many bytes its rule; or the place where
+// it stops being one.
+pub enum Outcome {
+    Text(usize, usize),
+    Stopped(usize),
+}
+
+// The outcome, and the rows of the text's tree, all zero where there is none.
+pub struct Tree {
+    pub outcome: Outcome,
+    pub rows: [u16; 192],
+}
+
+// ---- rows
+
+// How many entries a form has besides those of its parts.
+fn own_entries(form: u16) -> u16
+    ensures { λ r. ⌜ r ≡ formEntries form ⌝ }
+{
+    match form {
+        0..=9 => 1,
+        14 => 4,
+        _ => 2,
+    }
+}
+
+// How many bytes their records have.
+fn own_bytes(form: u16) -> u16
+    ensures { λ r. ⌜ r ≡ formBytes form ⌝ }
+{
+    match form {
+        0..=5 => 8,
+        6..=9 => 6,
+        10..=13 => 12,
+        14 => 30,
+        _ => 14,
+    }
+}
+
+// Fills row n, where there is such a row: a text with more entries is refused, and its rows are not read.
+fn note_row(rows: &mut [u16; 192], n: u16, form: u16, a: u16, b: u16)
+    requires { ⌜ 1 ≤ n ⌝ }
+    ensures { λ _. ⌜ now (rows .exit) ≡ noteRow (now (rows .entry)) n form a b ⌝ }
+{
+    if n <= 64 {
+        let at = 3 * (n as usize) - 3;
+        rows[at] = form;
+        rows[at + 1] = a;
+        rows[at + 2] = b;
+    }
+}
+
+// ---- what is made of a part
+
+// `true` where the label is 0, else `label N`, which ends at e.
+fn leaf(e: usize, label: u16, k: u16, rows: &mut [u16; 192]) -> Parsed
+    requires { ⌜ (e ≤ 1024) × (k ≤ 1024) ⌝ }
+    ensures { λ r. ⌜ (r ≡ Done e true 1 (leafBytes label)) × (now (rows .exit) ≡ noteT (leafTree label) k (now (rows .entry))) ⌝ }
+{
+    if label == 0 {
+        note_row(rows, k + 1, 1, 0, 0);
+        return Parsed::Done(e as u16, true, 1, 4);
+    }
+    note_row(rows, k + 1, 2, label, 0);
+    Parsed::Done(e as u16, true, 1, 6)
+}
+
+// `not`, and the test p.
+fn except(p: Parsed, k: u16, rows: &mut [u16; 192]) -> Parsed
+    requires { ⌜ Small p × (k ≤ 1024) ⌝ }
+    ensures { λ r. ⌜ Excepted p k (now (rows .entry)) r (now (rows .exit)) ⌝ }
+{
+    match p {
+        Parsed::Bad(q) => Parsed::Bad(q),
+        Parsed::Done(e, v, n, b) => {
+            note_row(rows, k + n + 1, 3, k + n, 0);
+            Parsed::Done(e, v, n + 1, b + 6)
+        }
+    }
+}
+
+// A first part, and p behind its k-th entry: the right of an `or`, or the rest of a path.
+fn joined(p: Parsed, k: u16, head: Head, rows: &mut [u16; 192]) -> Parsed
+    requires { ⌜ Small p × (k ≤ 1024) × (head .entries ≤ 1024) × (head .bytes ≤ 8192) ⌝ }
+    ensures { λ r. ⌜ Joined p k head (now (rows .entry)) r (now (rows .exit)) ⌝ }
+{
+    match p {
+        Parsed::Bad(q) => Parsed::Bad(q),
+        Parsed::Done(e, v, n, b) => {
+            let own = own_entries(head.form);
+            note_row(rows, k + n + own, head.form, k, k + n);
+            Parsed::Done(
+                e,
+                v,
+                n + head.entries + own,
+                b + head.bytes + own_bytes(head.form),
+            )
+        }
+    }
+}
+
+// The last step of a path, which ends at e with its `>`; its test, if it has one, ends with entry k.
+fn last_step(e: u16, k: u16, head: Head, rows: &mut [u16; 192]) -> Parsed
+    requires { ⌜ (k ≤ 1024) × (head .entries ≤ 1024) × (head .bytes ≤ 8192) ⌝ }
+    ensures { λ r. ⌜ LastStep e k head (now (rows .entry)) r (now (rows .exit)) ⌝ }
+{
+    let own = own_entries(head.form);
+    note_row(rows, k + own, head.form, k, 0);
+    Parsed::Done(
+        e,
+        false,
+        head.entries + own,
+        head.bytes + own_bytes(head.form),
+    )
+}
+
+// `<`, and the path p: its closing "true" is one entry more.
+fn closing(p: Parsed) -> Parsed
+    requires { ⌜ Small p ⌝ }
+    ensures { λ r. ⌜ Closing p r ⌝ }
+{
+    match p {
+        Parsed::Bad(q) => Parsed::Bad(q),
+        Parsed::Done(e, v, n, b) => Parsed::Done(e, v, n + 1, b + 4),
+    }
+}
+
+// The part, closed by a word of signs.
+fn shut(s: &[u8], p: Parsed, word: &[u8]) -> Parsed
+    requires { ⌜ Ends (now s) p × (length (now s) ≤ 1024) ⌝ }
+    ensures { λ r. ⌜ Shut (now (word .entry)) (now (s .entry)) p r ⌝ }
+{
+    match p {
+        Parsed::Bad(q) => Parsed::Bad(q),
+        Parsed::Done(e, v, n, b) => match word_at(s, e as usize, word) {
+            Word::Missing(q) => Parsed::Bad(q as u16),
+            Word::At(f) => Parsed::Done(f as u16, false, n, b),
+        },
+    }
+}
+
+// The step of a form whose test is p.
+fn step_of(p: Parsed, form: u16) -> Stepped
+    ensures { λ r. ⌜ SteppedBy p form r ⌝ }
+{
+    match p {
+        Parsed::Bad(q) => Stepped::Stray(q),
+        Parsed::Done(e, v, n, b) => Stepped::Step(
+            e,
+            v,
+            Head {
+                form: form,
+                entries: n,
+                bytes: b,
+            },
+        ),
+    }
+}
+
+// ---- the parsers
+
+fn test(s: &[u8], at: usize, after: bool, k: u16, rows: &mut [u16; 192]) -> Parsed
+    requires { ⌜ (at ≤ length (now s)) × (length (now s) ≤ 1024) × (k ≤ at) ⌝ }
+    ensures { λ r. ⌜ TestParsed after (now (s .entry)) at k (now (rows .entry)) r (now (rows .exit)) ⌝ }
+{
+    match begins_at(s, at, after) {
+        Begin::Nothing(p) => Parsed::Bad(p as u16),
+        Begin::Leaf(e, label) => leaf(e, label, k, rows),
+        Begin::Not(f) => {
+            let inner = test(s, f, true, k, rows);
+            except(inner, k, rows)
+        }
+        Begin::Either => either(s, at, k, rows),
+        Begin::Path => closing(path(s, at + 1, k + 1, rows)),
+    }
+}
+
+// (TEST or TEST)
+fn either(s: &[u8], at: usize, k: u16, rows: &mut [u16; 192]) -> Parsed
+    requires { ⌜ (at ≤ length (now s)) × (length (now s) ≤ 1024) × (k ≤ at) × (headOf (drop at (now s)) ≡ 40) ⌝ }
+    ensures { λ r. ⌜ ((w : Bool) → TestParsed w (now (s .entry)) at k (now (rows .entry)) r (now (rows .exit))) ⌝ }
+{
+    match test(s, at + 1, false, k, rows) {
+        Parsed::Bad(p) => Parsed::Bad(p),
+        Parsed::Done(e, v, n, b) => match or_at(s, e as usize, v) {
+            Word::Missing(p) => Parsed::Bad(p as u16),
+            Word::At(f) => {
+                let right = test(s, f, true, k + n, rows);
+                let head = Head {
+                    form: 4,
+                    entries: n,
+                    bytes: b,
+                };
+                shut(s, joined(right, k + n, head, rows), b")")
+            }
+        },
+    }
+}
+
+// STEP> or STEP/PATH
+fn path(s: &[u8], at: usize, k: u16, rows: &mut [u16; 192]) -> Parsed
+    requires { ⌜ (at ≤ length (now s)) × (length (now s) ≤ 1024) × (k ≤ at) ⌝ }
+    ensures { λ r. ⌜ PathParsed (now (s .entry)) at k (now (rows .entry)) r (now (rows .exit)) ⌝ }
+{
+    match step(s, at, k, rows) {
+        Stepped::Stray(p) => Parsed::Bad(p),
+        Stepped::Step(e, v, head) => {
+            let next = byte_at(s, e as usize);
+            let m = k + head.entries;
+            if next == 62 {
+                return last_step(e + 1, m, head, rows);
+            }
+            if next != 47 {
+                return Parsed::Bad(e);
+            }
+            let rest = path(s, e as usize + 1, m, rows);
+            joined(rest, m, head, rows)
+        }
+    }
+}
+
+fn step(s: &[u8], at: usize, k: u16, rows: &mut [u16; 192]) -> Stepped
+    requires { ⌜ (at ≤ length (now s)) × (length (now s) ≤ 1024) × (k ≤ at) ⌝ }
+    ensures { λ r. ⌜ StepParsed (now (s .entry)) at k (now (rows .entry)) r (now (rows .exit)) ⌝ }
+{
+    match start_at(s, at) {
+        Start::Stray(p) => Stepped::Stray(p as u16),
+        Start::Plain(e, v, form) => Stepped::Step(
+            e as u16,
+            v,
+            Head {
+                form: form,
+                entries: 0,
+                bytes: 0,
+            },
+        ),
+        Start::Test => step_of(test(s, at + 1, false, k, rows), 5),
+        Start::While(f, form) => {
+            let inner = test(s, f, false, k, rows);
+            step_of(shut(s, inner, b")*"), form)
+        }
+    }
+}
+
+// A byte string of 1 to 1,024 bytes, read from its first byte.
+fn read_sized(s: &[u8], rows: &mut [u16; 192]) -> Outcome
+    requires { ⌜ length (now s) ≤ 1024 ⌝ }
+    ensures { λ r. ⌜ Read (now (s .entry)) (now (rows .entry)) r (now (rows .exit)) ⌝ }
+{
+    match test(s, 0, false, 0, rows) {
+        Parsed::Bad(p) => Outcome::Stopped(p as usize),
+        Parsed::Done(e, v, n, b) => {
+            if e as usize == s.len() {
+                Outcome::Text(n as usize, b as usize)
+            } else {
+                Outcome::Stopped(e as usize)
+            }
+        }
+    }
+}
+
+// Reads a byte string as a text.
+pub fn read_tree(s: &[u8]) -> Tree
+    ensures { λ r. ⌜ TreeRead (now (s .entry)) (r .outcome) (r .rows) ⌝ }
+{
+    let mut rows = [0u16; 192];
+    if (s.len() == 0) | (1024 < s.len()) {
+        return Tree {
+            outcome: Outcome::Stopped(0),
+            rows: rows,
+        };
+    }
+    match read_sized(s, &mut rows) {
+        Outcome::Text(n, b) => Tree {
+            outcome: Outcome::Text(n, b),
+            rows: rows,
+        },
+        Outcome::Stopped(p) => Tree {
+            outcome: Outcome::Stopped(p),
+            rows: [0u16; 192],
+        },
+    }
+}

@@ -1,0 +1,104 @@
+// Bytes, fixed words and numbers at a cursor.
+ghost use mathlib.Core.Path.{_≡_};
+ghost use mathlib.Core.Bool.{true};
+ghost use Prim.Native.Nat.{_+_, _-_, _≤_, _<_};
+ghost use lib.ListN.{length, drop};
+ghost use Rattle.paths.proofs.Descent.{agree};
+ghost use Rattle.parse.specs.Promises.{headOf, digitFrom, WordAt, NumberAt};
+
+// A word at a cursor: it stands there and ends so; or no byte can stand there at this place.
+pub(crate) enum Word {
+    At(usize),
+    Missing(usize),
+}
+
+// A number at a cursor: how many digits it has, 0 where there is none, and its value.
+pub(crate) struct Number {
+    pub digits: usize,
+    pub value: u16,
+}
+
+// The byte at the cursor, 0 where there is none.
+pub(crate) fn byte_at(s: &[u8], at: usize) -> u8
+    ensures { λ r. ⌜ r ≡ headOf (drop at (now (s .entry))) ⌝ }
+{
+    if at < s.len() { s[at] } else { 0 }
+}
+
+// How many bytes of a word stand at the cursor.
+fn agreed(s: &[u8], at: usize, word: &[u8]) -> usize
+    requires { ⌜ at ≤ length (now s) ⌝ }
+    ensures { λ r. ⌜ (r ≡ agree (now (word .entry)) (drop at (now (s .entry)))) × (r ≤ length (now (word .entry))) × (at + r ≤ length (now (s .entry))) ⌝ }
+{
+    let mut i: usize = 0;
+    while i < word.len() {
+        if at + i >= s.len() {
+            return i;
+        }
+        if s[at + i] != word[i] {
+            return i;
+        }
+        i += 1;
+    }
+    i
+}
+
+// A fixed word: the bytes that agree give the place where it stops.
+pub(crate) fn word_at(s: &[u8], at: usize, word: &[u8]) -> Word
+    requires { ⌜ at ≤ length (now s) ⌝ }
+    ensures { λ r. ⌜ WordAt (now (word .entry)) (now (s .entry)) at r ⌝ }
+{
+    let k = agreed(s, at, word);
+    if k == word.len() {
+        Word::At(at + k)
+    } else {
+        Word::Missing(at + k)
+    }
+}
+
+// A digit from `low` to 9.
+fn digit_at(s: &[u8], at: usize, low: u8) -> bool
+    ensures { λ r. ⌜ r ≡ digitFrom low (drop at (now (s .entry))) ⌝ }
+{
+    let b = byte_at(s, at);
+    (low <= b) & (b <= 57)
+}
+
+// What the digit at the cursor counts.
+fn digit_value(s: &[u8], at: usize) -> u16
+    requires { ⌜ digitFrom 48 (drop at (now s)) ≡ true ⌝ }
+    ensures { λ r. ⌜ (r ≡ headOf (drop at (now (s .entry))) - 48) × (r < 10) ⌝ }
+{
+    (byte_at(s, at) - 48) as u16
+}
+
+// A number of 1 to 3 digits, the first not 0.
+pub(crate) fn number_at(s: &[u8], at: usize) -> Number
+    requires { ⌜ at ≤ length (now s) ⌝ }
+    ensures { λ r. ⌜ NumberAt (now (s .entry)) at (r .digits) (r .value) ⌝ }
+{
+    if !digit_at(s, at, 49) {
+        return Number {
+            digits: 0,
+            value: 0,
+        };
+    }
+    let one = digit_value(s, at);
+    if !digit_at(s, at + 1, 48) {
+        return Number {
+            digits: 1,
+            value: one,
+        };
+    }
+    let two = 10 * one + digit_value(s, at + 1);
+    if !digit_at(s, at + 2, 48) {
+        return Number {
+            digits: 2,
+            value: two,
+        };
+    }
+    Number {
+        digits: 3,
+        value: 10 * two + digit_value(s, at + 2),
+    }
+}
