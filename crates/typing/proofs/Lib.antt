@@ -1,0 +1,8 @@
+-- The laws behind the writer, in the order in which they build on each other.
+pub mod Changes
+pub mod Records
+pub mod Steps
+pub mod Made
+pub mod Writer
+pub mod Whole
+pub mod Answered

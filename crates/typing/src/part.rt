@@ -1,0 +1,24 @@
+// One row of the table of a text's tree.
+ghost use mathlib.Core.Path.{_≡_};
+ghost use Prim.Native.Nat.{_≤_};
+ghost use Rattle.typing.specs.Writing.{partAt};
+
+// What a row holds: its form and its two numbers.
+pub(crate) struct Part {
+    pub form: u16,
+    pub first: u16,
+    pub second: u16,
+}
+
+// Row n; rows count from 1, and there are 64.
+pub(crate) fn part_at(rows: &[u16; 192], n: u16) -> Part
+    requires { ⌜ (1 ≤ n) × (n ≤ 64) ⌝ }
+    ensures { λ r. ⌜ r ≡ partAt (now (rows .entry)) n ⌝ }
+{
+    let end = 3 * (n as usize);
+    Part {
+        form: rows[end - 3],
+        first: rows[end - 2],
+        second: rows[end - 1],
+    }
+}
