@@ -1,2 +1,3 @@
--- What holds of the two engines together.
+-- What the calls say together: the two engines; a typed rule and each of them.
 pub mod Same
+pub mod Typed

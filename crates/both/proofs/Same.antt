@@ -25,18 +25,18 @@ use Rattle.onepass.specs.Calls.{Call, Calls, tagsOf}
 use Rattle.onepass.specs.declared.export.StepReply.{StepReply}
 use Rattle.onepass.proofs.Agrees.{tags-append, report-fed}
 
+-- An opening among an accepted report's tags is one of its elements.
+pub opening-there : (report : List ℕ) (n : ℕ) → reportAnswer report ≡ Accepted n → (before : List Call) (label : ℕ) (r : StepReply) (later : List Call)
+    → tagsOf (before ++ (record { tag = opens label; answer = r } ∷ later)) ≡ tagsIn report → opened (tagsOf before) < length (levelsOf report)
+unfolding tagsOf labels
+opening-there report n report-taken before label r later fed =
+    let all : opened (tagsIn report) ≡ opened (tagsOf before) + opened (opens label ∷ tagsOf later) =
+    ap opened (sym fed ∙ tags-append before (record { tag = opens label; answer = r } ∷ later)) ∙ opened-append (tagsOf before) (opens label ∷ tagsOf later) in
+    let count : length (labelsOf report) ≡ opened (tagsIn report) = ap length (labels-accepted report n report-taken) in
+    omega (arith, all, count, elements-count report, levels-elements report)
+
 module _ (rule report : List ℕ) (m n : ℕ) (rule-taken : ruleAnswer rule ≡ Accepted m) (back : LooksBack (entriesOf rule))
     (bytes : Bytes report) (report-taken : reportAnswer report ≡ Accepted n) where
-  -- An opening among an accepted report's tags is one of its elements.
-  there : (before : List Call) (label : ℕ) (r : StepReply) (later : List Call)
-      → tagsOf (before ++ (record { tag = opens label; answer = r } ∷ later)) ≡ tagsIn report → opened (tagsOf before) < length (levelsOf report)
-  unfolding tagsOf labels
-  there before label r later fed =
-      let all : opened (tagsIn report) ≡ opened (tagsOf before) + opened (opens label ∷ tagsOf later) =
-      ap opened (sym fed ∙ tags-append before (record { tag = opens label; answer = r } ∷ later)) ∙ opened-append (tagsOf before) (opens label ∷ tagsOf later) in
-      let count : length (labelsOf report) ≡ opened (tagsIn report) = ap length (labels-accepted report n report-taken) in
-      omega (arith, all, count, elements-count report, levels-elements report)
-
   -- The evaluator has accepted rule and report and left `after`; one pass was started and fed all the report's tags. Then each opening
   -- is answered 0, with the last entry's bit of that element's word in `after`.
   pub engines-agree : (marks after : List ℕ) (e : Evaluation) → Evaluated rule report marks e after → e .number ≡ 0
@@ -48,4 +48,4 @@ module _ (rule report : List ℕ) (m n : ℕ) (rule-taken : ruleAnswer rule ≡ 
   engines-agree marks after e evaluated zero given start end r₀ started begun before label r later calls fed =
       let q = report-fed rule m rule-taken back given start r₀ started begun report n bytes report-taken
       (before ++ (record { tag = opens label; answer = r } ∷ later)) end calls fed before label r later refl in
-      (q .0, q .1 ∙ rw (word-is rule report marks e after evaluated zero (opened (tagsOf before)) (there before label r later fed)))
+      (q .0, q .1 ∙ rw (word-is rule report marks e after evaluated zero (opened (tagsOf before)) (opening-there report n report-taken before label r later fed)))

@@ -1,0 +1,98 @@
+-- A typed rule, as a caller meets it: where pz_read_path has taken a text, and a report is accepted with the bytes that it wrote, the
+-- last entry's bit of each word that pz_evaluate writes, and for a text that names neither `child` nor `right` each verdict of pz_open,
+-- is the text's own meaning. Over the promises of the calls. Assumes nothing.
+use Prim.Native.Nat.{ℕ, _≤_, _<_}
+use native.Mathlib.Omega.{arith}
+use mathlib.Core.Path.{_≡_, refl, sym, ap, _∙_}
+use mathlib.Core.Bool.{Bool, true, false}
+use mathlib.Core.List.{List, _∷_, _++_}
+use mathlib.Core.Logic.{_↔_}
+use lib.ListN.{length, getD, take, drop}
+use lib.Seq.{take-append-seam}
+use Rattle.records.specs.Report.{reportAnswer, tagsOf as tagsIn}
+use Rattle.records.specs.Tables.{entriesOf, labelsOf, levelsOf}
+use Rattle.records.specs.Tags.{opens, opened}
+use Rattle.records.specs.declared.answer.Answer.the-variants.{Accepted}
+use Rattle.grammar.specs.Bytes.{Bytes}
+use Rattle.meaning.specs.Marks.{bit, bitAt, wordOf}
+use Rattle.meaning.specs.OnePass.{LooksBack}
+use Rattle.meaning.proofs.Reflect.{word-iff}
+use Rattle.evaluate.specs.Evaluation.{Evaluated}
+use Rattle.evaluate.specs.declared.evaluate.Evaluation.{Evaluation}
+use Rattle.evaluate.proofs.Means.{bit-iff}
+use Rattle.onepass.specs.Step.{Started}
+use Rattle.onepass.specs.Calls.{Call, Calls, tagsOf}
+use Rattle.onepass.specs.declared.export.StepReply.{StepReply}
+use Rattle.onepass.proofs.Agrees.{report-fed}
+use Rattle.paths.specs.Syntax.{Test, namesT, leadsBack}
+use Rattle.paths.specs.Selection.{Selects}
+use Rattle.paths.specs.Translation.{lastOf, tableOf}
+use Rattle.paths.specs.Answer.{entriesMost, TextOf, bytesFor, taken}
+use Rattle.paths.proofs.Answer.{gets-only}
+use Rattle.paths.proofs.Unambiguous.{text-only}
+use Rattle.paths.proofs.Selects.{table-selects, pred-lt}
+use Rattle.paths.proofs.Rule.{table-rule, table-taken}
+use Rattle.paths.proofs.BackOnly.{table-back}
+use Rattle.typing.specs.Typed.{Typed}
+use Rattle.typing.specs.declared.export.PathReply.{PathReply}
+use Rattle.typing.proofs.Answered.{zero-iff}
+use Rattle.both.proofs.Same.{opening-there}
+
+bit-one : (b : Bool) → (bit b ≡ 1) ↔ (b ≡ true)
+bit-one true = (λ e. refl, λ e. refl)
+bit-one false = (λ e. absurd (omega arith), λ e. let z : _≡_ {A = ℕ} 0 1 = cc in absurd (omega arith))
+
+-- The call has taken the text of tree t, and left its rule at the front of the buffer.
+module _ (text lent after : List ℕ) (r : PathReply) (t : Test) (typed : Typed text lent r after) (zero : r .number ≡ 0) (spelt : TextOf text t) where
+  -- The rule, as its caller finds it.
+  abbrev pub rule : List ℕ
+  rule = take (r .written) after
+
+  -- It has few enough entries, and its bytes are those of the tree's table.
+  few : length (tableOf t) ≤ entriesMost
+  few =
+      let (u, y, (l, m)) = zero-iff text lent r after typed .0 zero in
+      let same : u ≡ t = text-only u t (sym (y .spelt) ∙ spelt .spelt) in rw same at l
+
+  pub rule-is : rule ≡ bytesFor t
+  rule-is =
+      let (u, y, (l, m)) = zero-iff text lent r after typed .0 zero in
+      let same : u ≡ t = text-only u t (sym (y .spelt) ∙ spelt .spelt) in
+      let bytes : typed .bytes ≡ bytesFor u = gets-only text (length lent) _ _ _ _ _ _ (typed .gets) (taken y l m) .2 in
+      rw (typed .count, typed .buffer) (take-append-seam (typed .bytes) (drop (length (typed .bytes)) lent)) ∙ bytes ∙ ap bytesFor same
+
+  -- The last entry's bit of word s is set exactly where the text's own meaning has element s.
+  pub evaluated-selects : (report marks words : List ℕ) (e : Evaluation) → Evaluated rule report marks e words → e .number ≡ 0
+      → (s : ℕ) → s < length (levelsOf report)
+      → (bitAt (getD words s 0) (lastOf (entriesOf rule)) ≡ true) ↔ Selects (levelsOf report) (labelsOf report) t s
+  evaluated-selects report marks words e evaluated accepted s l =
+      let same = table-taken t (spelt .labels) few .1 in
+      let entries : entriesOf rule ≡ tableOf t = ap entriesOf rule-is ∙ same in
+      let some = table-rule t (spelt .labels) few .nonempty in
+      let there : lastOf (entriesOf rule) < length (entriesOf rule) = rw entries (pred-lt (length (tableOf t)) some) in
+      let h = bit-iff rule report marks e words evaluated accepted s (lastOf (entriesOf rule)) l there in
+      let k = table-selects (levelsOf report) (labelsOf report) t s in
+      let q = rw entries at h in rw entries (λ x. k .0 (q .0 x), λ x. q .1 (k .1 x))
+
+  -- One pass was started and fed an accepted report's tags, with a text that names neither `child` nor `right`: each opening is answered
+  -- 0, and its verdict is 1 exactly where the text's own meaning has the element.
+  pub opened-selects : namesT leadsBack t ≡ true → (report : List ℕ) (n : ℕ) → Bytes report → reportAnswer report ≡ Accepted n
+      → (given start end : List ℕ) (r₀ : StepReply) → Started given r₀ start → r₀ .number ≡ 0
+      → (before : List Call) (label : ℕ) (a : StepReply) (later : List Call)
+      → Calls rule start (before ++ (record { tag = opens label; answer = a } ∷ later)) end
+      → tagsOf (before ++ (record { tag = opens label; answer = a } ∷ later)) ≡ tagsIn report
+      → (a .number ≡ 0) × ((a .verdict ≡ 1) ↔ Selects (levelsOf report) (labelsOf report) t (opened (tagsOf before)))
+  opened-selects back report n bytes report-taken given start end r₀ started begun before label a later calls fed =
+      let accepted = table-taken t (spelt .labels) few in
+      let looks : LooksBack (entriesOf (bytesFor t)) = rw (accepted .1) (table-back t .1 back) in
+      let s = opened (tagsOf before) in
+      let cs = before ++ (record { tag = opens label; answer = a } ∷ later) in
+      let fed-rule : Calls (bytesFor t) start cs end = rw rule-is at calls in
+      let q = report-fed (bytesFor t) _ (accepted .0) looks given start r₀ started begun report n bytes report-taken cs end fed-rule fed before label a later refl in
+      let some = table-rule t (spelt .labels) few .nonempty in
+      let v : a .verdict ≡ bit (bitAt (wordOf (tableOf t) (levelsOf report) (labelsOf report) s) (lastOf (tableOf t))) = rw (accepted .1) at (q .1) in
+      let there = opening-there report n report-taken before label a later fed in
+      let w = word-iff (levelsOf report) (labelsOf report) (tableOf t) (lastOf (tableOf t)) s (pred-lt _ some) there in
+      let k = table-selects (levelsOf report) (labelsOf report) t s in
+      let b = bit-one (bitAt (wordOf (tableOf t) (levelsOf report) (labelsOf report) s) (lastOf (tableOf t))) in
+      (q .0, (λ x. k .0 (w .0 (b .0 (sym v ∙ x))), λ x. v ∙ b .1 (w .1 (k .1 x))))
