@@ -2,6 +2,7 @@
  *
  * A report is a tree of labelled elements, a rule is a formula that picks elements out; both are byte
  * strings. pz_read_rule and pz_read_report say whether one is accepted, and if not, why and where.
+ * pz_read_path turns a rule that a person typed as text into the rule's bytes.
  * pz_evaluate marks the elements of a whole report at which each entry of a rule holds. pz_start,
  * pz_open and pz_close give the verdict of a rule that looks back only, at the moment an element opens.
  * pz_tally counts verdicts.
@@ -51,16 +52,16 @@
  * as its length says, marks is aligned for uint64_t, lent buffers do not overlap, and nobody else
  * writes what is lent, or reads what is lent to be written, during the call. A length in bytes is at
  * most PTRDIFF_MAX. NULL with length 0 has been tried with every function that takes a length and is
- * fine: it is an empty string, or a buffer of no words. NULL with another length is the caller's fault.
+ * fine: it is an empty string, or a buffer without room. NULL with another length is the caller's fault.
  *
  * No function keeps or frees a pointer, allocates, prints or fails to return, and all may be called from
- * several threads at once, each with buffers of its own. pz_evaluate needs some 40 KiB of stack, the
- * others less than 1 KiB.
+ * several threads at once, each with buffers of its own. pz_evaluate needs some 40 KiB of stack,
+ * pz_read_path less than 256 KiB for the most deeply nested text, the others less than 1 KiB.
  */
 #ifndef POLONEZAR_H
 #define POLONEZAR_H
 
-#define PZ_VERSION "0.1.0"
+#define PZ_VERSION "0.2.0"
 
 #include <stddef.h>
 #include <stdint.h>
@@ -77,12 +78,13 @@ enum pz_size {
     PZ_REPORT_ELEMENTS = 4096,  /* .. 1 to 4,096 elements .. */
     PZ_REPORT_LEVELS = 64,      /* .. and levels 0 to 63 */
     PZ_LABEL_LEAST = 1,         /* labels are 1 to 999, in rules and in reports */
-    PZ_LABEL_MOST = 999
+    PZ_LABEL_MOST = 999,
+    PZ_TEXT_BYTES = 1024        /* a rule typed as text has 1 to 1,024 bytes */
 };
 
 /* The numbers given back. pz_read_rule gives 0 to 4; pz_read_report gives 0 and 5 to 8; pz_evaluate
  * gives 0 to 9; pz_start gives 0 and 11; pz_open gives 0 to 4, 6 to 8, 10 and 11; pz_close gives 0 to 4,
- * 7, 10 and 11; pz_tally gives 0 and 12. */
+ * 7, 10 and 11; pz_tally gives 0 and 12; pz_read_path gives 0, 9, 13 and 14. */
 enum pz_number {
     PZ_ACCEPTED = 0,          /* taken as it is */
     PZ_RULE_SIZE = 1,         /* the rule is empty, or longer than 512 bytes */
@@ -97,11 +99,14 @@ enum pz_number {
     PZ_REPORT_ORDER = 7,      /* tags out of order: a closing with no element open, an opening when the
                                  root is closed already, or a report that stops too early */
     PZ_REPORT_FULL = 8,       /* more than 64 levels, or more than 4,096 elements */
-    PZ_MARKS_SHORT = 9,       /* the buffer for marks has too few words */
+    PZ_MARKS_SHORT = 9,       /* the buffer for marks has too few words .. */
+    PZ_BUFFER_SHORT = 9,      /* .. and the same of any lent buffer: what is to be written has no room */
     PZ_LOOKS_AHEAD = 10,      /* one pass cannot follow this rule: an entry looks ahead, whether the last
                                  entry uses it or not */
     PZ_STATE_BAD = 11,        /* the state of one pass is damaged or of another length */
-    PZ_TALLY = 12             /* the tally is full, or its counts do not add up */
+    PZ_TALLY = 12,            /* the tally is full, or its counts do not add up */
+    PZ_TEXT_BAD = 13,         /* the text is empty, longer than 1,024 bytes, or no text of the grammar */
+    PZ_TEXT_FULL = 14         /* the text makes more than 64 entries */
 };
 
 /* What pz_read_rule gives. */
@@ -135,6 +140,46 @@ struct pz_rule_reply pz_read_rule(const uint8_t *rule, size_t rule_len);
  * by these rows too. Where no record is faulty and an element is open at the end, 7; else 0.
  * Promise: reportReply (crates/records/specs/Reply.antt). */
 struct pz_report_reply pz_read_report(const uint8_t *report, size_t report_len);
+
+/* A rule typed as text. It is one test; a test holds at an element or does not.
+ *
+ *   +------------------------------------------------------------------------------------------+
+ *   | test   true                every element                                                 |
+ *   |        label N             elements with label N: 1 to 999, in digits, the first not 0   |
+ *   |        not test            elements where the test does not hold                         |
+ *   |        (test or test)      elements where one of the two holds, or both                  |
+ *   |        <path>              elements from which the path leads to some element            |
+ *   | path   step/step/..        one step or more, taken from left to right                    |
+ *   | step   axis                one step along the axis                                       |
+ *   |        axis*               any number of such steps, none too                            |
+ *   |        ?test               stay, where the test holds                                    |
+ *   |        (axis?test)*        any number of steps, none too, each to where the test holds   |
+ *   | axis   child  parent  right  left     (the next sibling is right, the previous one left) |
+ *   +------------------------------------------------------------------------------------------+
+ *
+ *   One space stands between two words or numbers that follow each other, and no other space anywhere:
+ *   not label 5, not<left>, (label 10 or label 30), (<child>or<left>). Tests and paths may hold each other
+ *   to any depth. A rule that names neither child nor right looks back only, so that pz_open takes it. */
+
+/* What pz_read_path gives. */
+struct pz_written {
+    uint32_t number;          /* 0 taken, else why not: 9, 13 or 14 of pz_number */
+    uint32_t place;           /* for 13 where the size is good, how many bytes of the text some text of the
+                                 grammar, however long, begins with: the offset of the first byte that
+                                 cannot stand there, or the length where the text ends too soon; else 0 */
+    uint32_t written;         /* how many bytes of rule hold the rule, 4 to 456; 0 where it is refused */
+};
+
+/* Reads a rule that was typed as text, and writes the rule's bytes. Lent for this call: text, text_len
+ * bytes, only read; rule, a buffer of rule_len bytes, written where the text is taken: 512 (PZ_RULE_BYTES)
+ * are always room. Nothing is kept.
+ * Gives: number 0, place 0 and how many bytes were written, at the front of rule; the bytes past them
+ * are as they were. pz_read_rule takes what was written, and its last entry holds exactly where the text
+ * does. Else the number, its place, written 0, and rule as it was.
+ * Order: 13 for the size, 13 for the grammar of the whole text, 14, and 9 where rule_len is below the
+ * rule's length.
+ * Promise: Typed (crates/typing/specs/Typed.antt). */
+struct pz_written pz_read_path(const uint8_t *text, size_t text_len, uint8_t *rule, size_t rule_len);
 
 /* What pz_evaluate gives. */
 struct pz_evaluation {

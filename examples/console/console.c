@@ -1,7 +1,9 @@
 /* console.c: a console at a desk: tags in, verdicts out.
  *
  *     console RULE_FILE [SAVE_FILE] < TAGS
+ *     console -r TEXT [SAVE_FILE] < TAGS
  *
+ * The rule stands in a file, or is typed as text.
  * A tag is a line, `open LABEL` or `close`. The verdict on an element is printed the moment it opens, and a refused
  * tag is printed with its number and what that means; the tally comes at the end. After each accepted tag the save
  * file is replaced, and a console that is started with it goes on from there.
@@ -235,13 +237,19 @@ static enum restored begin(struct console *c)
     return found;
 }
 
-static enum status run(struct console *c, const char *rule_name)
+/* Gets the rule, from its text or from its file. Gives false, having said why, where it cannot. */
+static bool get_rule(struct console *c, const char *rule, bool typed)
+{
+    if (typed)
+        return read_typed(rule, &c->kept.rule);
+    return read_whole(rule, &c->kept.rule) || cannot("read", rule);
+}
+
+static enum status run(struct console *c, const char *rule, bool typed)
 {
     enum restored found;
-    if (!read_whole(rule_name, &c->kept.rule)) {
-        cannot("read", rule_name);
+    if (!get_rule(c, rule, typed))
         return CANNOT_GO_ON;
-    }
     found = begin(c);
     if (found == CANNOT_RESTORE || !ask(c))
         return CANNOT_GO_ON;
@@ -256,12 +264,15 @@ int main(int argc, char **argv)
 {
     struct console c = {0};
     enum status status;
-    if (argc != 2 && argc != 3) {
-        fprintf(stderr, "usage: console RULE_FILE [SAVE_FILE] < TAGS\n");
+    bool typed = argc > 1 && strcmp(argv[1], "-r") == 0;
+    char **given = argv + 1 + typed;            /* the rule, and the save file's name or NULL */
+    int count = argc - 1 - typed;
+    if (count != 1 && count != 2) {
+        fprintf(stderr, "usage: console RULE_FILE [SAVE_FILE] < TAGS\n       console -r TEXT [SAVE_FILE] < TAGS\n");
         return CANNOT_GO_ON;
     }
-    c.save_name = argv[2];      /* NULL after the last argument */
-    status = run(&c, argv[1]);
+    c.save_name = given[1];
+    status = run(&c, given[0], typed);
     free(c.kept.rule.at);
     free(c.kept.state.at);
     return status;

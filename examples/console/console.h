@@ -1,4 +1,4 @@
-/* console.h: what the two files of the console share. */
+/* console.h: what the files of the console share. */
 #ifndef CONSOLE_H
 #define CONSOLE_H
 
@@ -26,6 +26,10 @@ bool cannot(const char *what, const char *name);
 
 /* Reads a whole file, however long it is. Gives false, with errno set, where it cannot be read. */
 bool read_whole(const char *name, struct bytes *into);
+
+/* Turns a rule that was typed as text into the rule's bytes. Gives false, having said what is wrong with the text,
+ * where, and what to do, where it is refused. */
+bool read_typed(const char *text, struct bytes *into);
 
 /* Puts what is kept in place of the save file. Gives false, having said why, where it cannot. */
 bool save(const struct kept *kept, const char *name);

@@ -7,7 +7,7 @@
 #include <string.h>
 #include <time.h>
 
-enum { ROUNDS = 40, ELEMENTS = 4096, REPORT_BYTES = 10 * ELEMENTS };
+enum { ROUNDS = 40, ELEMENTS = 4096, REPORT_BYTES = 10 * ELEMENTS, CALLS = 200 };
 
 static int passed, failed;
 
@@ -202,6 +202,153 @@ static void one_pass(unsigned entries, const struct rule *rule, const struct rep
           plain_best);
 }
 
+struct text {
+    char bytes[PZ_TEXT_BYTES + 1];
+    size_t size;
+};
+
+static void add(struct text *t, size_t times, const char *bytes)
+{
+    for (size_t i = 0; i < times; i++)
+        for (const char *b = bytes; *b; b++)
+            t->bytes[t->size++] = *b;
+}
+
+/* One path of so many bytes, 7 n + 37. */
+static struct text flat_path(size_t bytes)
+{
+    struct text t = {{0}, 0};
+    add(&t, 1, "<");
+    add(&t, (bytes - 37) / 7, "parent/");
+    add(&t, 5, "right/");
+    add(&t, 1, "right>");
+    return t;
+}
+
+/* Paths in tests in paths, in so many bytes, 3 n + 4 or 3 n + 8. */
+static struct text nested_paths(size_t bytes)
+{
+    struct text t = {{0}, 0};
+    const char *inmost = bytes % 3 == 1 ? "true" : "label 10";
+    size_t depth = (bytes - strlen(inmost)) / 3;
+    add(&t, depth, "<?");
+    add(&t, 1, inmost);
+    add(&t, depth, ">");
+    return t;
+}
+
+/* Nested choices, in so many bytes, 14 n + 14: with 31 of them 64 entries, and no text that is taken is longer. */
+static struct text choices(size_t bytes)
+{
+    struct text t = {{0}, 0};
+    size_t depth = bytes / 14 - 1;
+    add(&t, depth, "(");
+    add(&t, 1, "not label 999 or label 999)");
+    add(&t, depth - 1, "or label 999)");
+    return t;
+}
+
+/* Steps up, in so many bytes, 7 n + 1. */
+static struct text steps_up(size_t bytes)
+{
+    struct text t = {{0}, 0};
+    add(&t, 1, "<");
+    add(&t, bytes / 7 - 1, "parent/");
+    add(&t, 1, "parent>");
+    return t;
+}
+
+/* Both forms on one text: the same answer, and the same lent bytes. */
+static int same_path(const struct text *t, size_t size, size_t room)
+{
+    static uint8_t ours[PZ_RULE_BYTES], plain[PZ_RULE_BYTES];
+    struct pz_written a, b;
+    memset(ours, 170, sizeof ours);
+    memset(plain, 170, sizeof plain);
+    a = pz_read_path((const uint8_t *)t->bytes, size, ours, room);
+    b = plain_read_path((const uint8_t *)t->bytes, size, plain, room);
+    return memcmp(&a, &b, sizeof a) == 0 && memcmp(ours, plain, sizeof ours) == 0;
+}
+
+/* The same on every beginning of a text, with every room, and with another byte at each place. */
+static void damaged_paths(const char *name, const struct text *given)
+{
+    static const char other[] = " ()<>/?*0159abcdefghilnoprtu\t\r\n\200\377";
+    struct text t = *given;
+    int same = 1;
+    unsigned long compared = 0;
+    for (size_t size = 0; size <= t.size; size++, compared++) same &= same_path(&t, size, PZ_RULE_BYTES);
+    for (size_t room = 0; room <= PZ_RULE_BYTES; room++, compared++) same &= same_path(&t, t.size, room);
+    for (size_t at = 0; at < t.size; at++) {
+        for (size_t i = 0; i < sizeof other; i++, compared++) {
+            t.bytes[at] = other[i];
+            same &= same_path(&t, t.size, PZ_RULE_BYTES);
+        }
+        t.bytes[at] = given->bytes[at];
+    }
+    if (same) {
+        passed++;
+        printf("read path: %4zu bytes, %-7s  the same answers and bytes on %lu texts and buffers\n", t.size, name, compared);
+    } else {
+        failed++;
+        printf("FAILED: read path: %zu bytes, %s: the answers differ\n", t.size, name);
+    }
+}
+
+typedef struct pz_written (*read_path)(const uint8_t *, size_t, uint8_t *, size_t);
+
+/* Lowers best to the time of one call, where so much room is lent and so many calls are made. */
+static void time_path(read_path read, const struct text *t, size_t room, int calls, double *best)
+{
+    static uint8_t rule[PZ_RULE_BYTES];
+    double begun = microseconds(), each;
+    for (int i = 0; i < calls; i++) read((const uint8_t *)t->bytes, t->size, rule, room);
+    each = (microseconds() - begun) / calls;
+    if (each < *best) *best = each;
+}
+
+static void path(const char *name, struct text t)
+{
+    double ours = 1e9, plain = 1e9;
+    damaged_paths(name, &t);
+    for (int round = 0; round < ROUNDS; round++) {
+        time_path(pz_read_path, &t, PZ_RULE_BYTES, CALLS, &ours);
+        time_path(plain_read_path, &t, PZ_RULE_BYTES, CALLS, &plain);
+    }
+    printf("read path: %4zu bytes, %-7s  proved %9.3f us, plain %9.3f us, ratio %.2f\n", t.size, name, ours, plain,
+           ours / plain);
+}
+
+/* Eight times the length. With no room both texts are checked and neither is written, whatever they would give.
+ * A processor foresees where the innermost calls return to, 16 of them or so, and no more: each level beyond costs
+ * more than those, and all beyond cost the same. So nested texts grow by more than eight in either form. */
+static void growth(const char *name, struct text t, struct text longer, size_t room)
+{
+    double ours = 1e9, ours_longer = 1e9, plain = 1e9, plain_longer = 1e9;
+    for (int round = 0; round < ROUNDS; round++) {
+        time_path(pz_read_path, &t, room, 8 * CALLS, &ours);
+        time_path(pz_read_path, &longer, room, CALLS, &ours_longer);
+        time_path(plain_read_path, &t, room, 8 * CALLS, &plain);
+        time_path(plain_read_path, &longer, room, CALLS, &plain_longer);
+    }
+    printf("read path: %4zu to %4zu bytes, %-15s  proved %.2f times the time, plain %.2f times\n", t.size, longer.size,
+           name, ours_longer / ours, plain_longer / plain);
+}
+
+static void paths(void)
+{
+    struct text typical = {{0}, 0};
+    add(&typical, 1, "<?label 200/right*/?label 300>");
+    path("typical", typical);
+    path("taken", choices(448));
+    path("flat", flat_path(1024));
+    path("nested", nested_paths(1024));
+    growth("flat, checked", flat_path(128), flat_path(1024), 0);
+    growth("nested, checked", nested_paths(128), nested_paths(1024), 0);
+    growth("flat, taken", steps_up(50), steps_up(400), PZ_RULE_BYTES);
+    growth("nested, taken", choices(56), choices(448), PZ_RULE_BYTES);
+}
+
 int main(void)
 {
     static struct report reports[3];
@@ -217,6 +364,7 @@ int main(void)
             one_pass(sizes[i], &looks_back, &reports[k]);
         }
     }
+    paths();
     printf("%d passed, %d failed\n", passed, failed);
     return failed != 0;
 }

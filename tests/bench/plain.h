@@ -8,5 +8,6 @@ struct pz_evaluation plain_evaluate(const uint8_t *rule, size_t rule_len, const 
                                     uint64_t *marks, size_t words);
 struct pz_step plain_open(const uint8_t *rule, size_t rule_len, uint8_t *state, size_t state_len, uint32_t label);
 struct pz_step plain_close(const uint8_t *rule, size_t rule_len, uint8_t *state, size_t state_len);
+struct pz_written plain_read_path(const uint8_t *text, size_t text_len, uint8_t *rule, size_t rule_len);
 
 #endif

@@ -27,6 +27,31 @@ static void readers(void)
     check(s.number == PZ_REPORT_ORDER && s.place == 56 && s.elements == 0, "a report whose root stays open");
 }
 
+/* The text of a rule that selects what the rule above does, and one that is wrong at its last byte. */
+static void typed(void)
+{
+    static const char text[] = "<?label 20/parent/left/?label 10>", wrong[] = "<?label 20/parent/left/>";
+    uint8_t bytes[PZ_RULE_BYTES];
+    uint64_t marks[6];
+    size_t i;
+    struct pz_evaluation e;
+    struct pz_written w;
+    memset(bytes, 255, sizeof bytes);
+    w = pz_read_path((const uint8_t *)wrong, sizeof wrong - 1, bytes, sizeof bytes);
+    check(w.number == PZ_TEXT_BAD && w.place == 23 && w.written == 0, "a text that is wrong at byte 23");
+    w = pz_read_path((const uint8_t *)text, sizeof text - 1, bytes, 43);
+    check(w.number == PZ_BUFFER_SHORT && w.place == 0 && w.written == 0, "no room for the rule");
+    check(bytes[0] == 255 && bytes[42] == 255, "a refusal writes no byte");
+    w = pz_read_path((const uint8_t *)text, sizeof text - 1, bytes, sizeof bytes);
+    check(w.number == PZ_ACCEPTED && w.place == 0 && w.written == 44, "the text is taken");
+    check(bytes[44] == 255 && bytes[PZ_RULE_BYTES - 1] == 255, "the bytes behind the rule stay");
+    check(pz_read_rule(bytes, w.written).entries == 7, "the rule has an entry for each part of the text");
+    e = pz_evaluate(bytes, w.written, report_r, sizeof report_r, marks, 6);
+    check(e.number == PZ_ACCEPTED && e.selected == 1, "the typed rule selects one element");
+    for (i = 0; i < 6; i++)
+        check((marks[i] >> 6 & 1) == (words[i] >> 4 & 1), "the typed rule selects the same element");
+}
+
 static void whole(void)
 {
     uint64_t marks[7];
@@ -79,6 +104,7 @@ static void one_pass(void)
 int main(void)
 {
     readers();
+    typed();
     whole();
     one_pass();
     printf("polonezar %s\n", PZ_VERSION);
