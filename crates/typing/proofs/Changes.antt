@@ -31,7 +31,7 @@ pub put-length : (es : List Entry) (e : Entry) → length (put es e) ≡ length 
 unfolding put
 put-length es e = length-append es (e ∷ [])
 
--- Putting an entry.
+-- Putting an entry does so.
 pub grows-put : (e : List Entry → Entry) → Grows (λ es. put es (e es))
 grows-put e =
     record {
@@ -39,11 +39,11 @@ grows-put e =
       larger = λ es. omega (arith, ap length (put-bytes es (e es)), length-append (ruleBytes es) (recordOf (e es)));
     }
 
--- Doing nothing.
+-- So does doing nothing,
 pub grows-none : Grows (λ es. es)
 grows-none = record { longer = λ es. omega arith; larger = λ es. omega arith }
 
--- Of two changes that grow, each by the number of the entry that was the last before both.
+-- so do two changes, each by the number of the entry that was the last before both.
 pub grows-then : (f g : ℕ → Change) → ((i : ℕ) → Grows (f i)) → ((i : ℕ) → Grows (g i)) → Grows (λ es. g (lastOf es) (f (lastOf es) es))
 grows-then f g p q =
     record {
@@ -51,7 +51,7 @@ grows-then f g p q =
       larger = λ es. let i = lastOf es in omega (arith, p i .larger es, q i .larger (f i es));
     }
 
--- Of the change that a test chooses.
+-- and a change that a test chooses.
 pub grows-cond : (b : Bool) {f g : Change} → Grows f → Grows g → Grows (λ es. cond b (f es) (g es))
 grows-cond true p q = p
 grows-cond false p q = q
@@ -63,7 +63,7 @@ filled-length : {before : List ℕ} {es : List Entry} {rule : List ℕ} {w : Wri
 unfolding putAt
 filled-length {before} {es} p = ap length (p .bytes-are .bytes-are) ∙ length-sets before 0 (ruleBytes es)
 
--- The same, as another change that makes the same of every table.
+-- What is asked for one change is asked for another that makes the same of every table,
 pub asks-as : {f g : Change} {rule : List ℕ} {w : Written} → ((es : List Entry) → f es ≡ g es) → Asks f rule w → Asks g rule w
 asks-as {f} {g} {rule} {w} e a =
     record {
@@ -74,13 +74,16 @@ asks-as {f} {g} {rule} {w} e a =
       room = rw (e (a .es)) at (a .room);
     }
 
-pub puts-as : {f g : Change} {rule rule′ : List ℕ} {w w′ : Written} → ((es : List Entry) → f es ≡ g es) → Puts g rule w rule′ w′ → Puts f rule w rule′ w′
+-- and what one has put, the other has.
+pub puts-as : {f g : Change} {rule rule′ : List ℕ} {w w′ : Written} → ((es : List Entry) → f es ≡ g es)
+    → Puts g rule w rule′ w′ → Puts f rule w rule′ w′
 puts-as e p = record { more = p .more; fills = λ before es x. rw (e es) (p .fills before es x) }
 
 -- The number of the last entry that is written.
 abbrev pub lastIn : Written → ℕ
 lastIn w = pred (w .entries)
 
+-- .. is that of the table's last entry.
 last-is : {before : List ℕ} {es : List Entry} {rule : List ℕ} {w : Written} {i : ℕ} → i ≡ lastIn w → Filled before es rule w → i ≡ lastOf es
 last-is e p = e ∙ ap pred (p .entries-are)
 

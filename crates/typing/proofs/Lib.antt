@@ -2,6 +2,7 @@
 pub mod Changes
 pub mod Records
 pub mod Steps
+pub mod Below
 pub mod Made
 pub mod Writer
 pub mod Whole

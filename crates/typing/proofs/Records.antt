@@ -2,8 +2,8 @@
 use Prim.Native.Nat.{ℕ, zero, suc, _+_, _%_, _/_, _≤_, _<_}
 use native.Mathlib.Omega.{arith}
 use native.Mathlib.Nat.{add-zero}
-use mathlib.Core.Path.{_≡_, refl, sym, ap, subst, _∙_}
-use mathlib.Core.List.{List, [], _∷_, _++_}
+use mathlib.Core.Path.{_≡_, sym, ap}
+use mathlib.Core.List.{List, [], _++_}
 use borrow.Author.Tests.{le-leb}
 use lib.ListN.{length, set, length-append}
 use Rattle.records.specs.Kinds.{rowOf}
@@ -12,7 +12,7 @@ use Rattle.grammar.specs.Bytes.{twoBytes}
 use Rattle.grammar.specs.Rules.{bodyOf, recordOf, ruleBytes}
 use Rattle.text.specs.Rendered.{Put}
 use Rattle.text.proofs.PutLaws.{put-none, put-one, put-then, put-as}
-use Rattle.paths.specs.Translation.{entry, put}
+use Rattle.paths.specs.Translation.{entry}
 use Rattle.typing.specs.declared.put.Written.{Written}
 use Rattle.typing.specs.Writing.{oneMore, numbers, Asks, Puts}
 use Rattle.typing.proofs.Changes.{put-bytes, put-length}
@@ -26,35 +26,37 @@ number-puts x rule at =
     let e : at + 1 + 1 ≡ at + 2 = omega arith in
     rw (sym e) (put-then (put-one (x % 256) rule at) (put-one (x / 256) (set rule at (x % 256)) (at + 1)))
 
--- A body has no number, one, or two.
+-- A body has no number,
 body-none : (k a b : ℕ) → k ≡ 0 → numbers k a b ≡ []
 unfolding bodyOf
 body-none k a b e = rw e
 
+-- one,
 body-one : (k a b : ℕ) → k ≡ 1 → numbers k a b ≡ twoBytes a
 unfolding bodyOf twoBytes
 body-one k a b e = rw e
 
+-- or two.
 body-two : (k a b : ℕ) → (k ≡ 0 → ⊥) → (k ≡ 1 → ⊥) → numbers k a b ≡ twoBytes a ++ twoBytes b
 unfolding bodyOf
 body-two k a b h i = rw (le-leb 1 k (omega (arith, h)), le-leb 2 k (omega (arith, h, i)))
 
--- Where it has some, it has room for the first.
+-- Where it has one, two bytes are its own;
 pub body-first : (k a b : ℕ) → (k ≡ 0 → ⊥) → 2 ≤ length (numbers k a b)
 unfolding bodyOf twoBytes
 body-first k a b h = rw (le-leb 1 k (omega (arith, h))) (omega arith)
 
--- .. and for two.
-pub body-second : (k a b : ℕ) → (k ≡ 0 → ⊥) → (k ≡ 1 → ⊥) → length (numbers k a b) ≡ 4
+-- where it has two, four.
+pub body-both : (k a b : ℕ) → (k ≡ 0 → ⊥) → (k ≡ 1 → ⊥) → length (numbers k a b) ≡ 4
 unfolding twoBytes
-body-second k a b h i = ap length (body-two k a b h i)
+body-both k a b h i = ap length (body-two k a b h i)
 
 -- A number that was put ends two bytes on.
 pub number-next : (x : ℕ) {rule after : List ℕ} {at r : ℕ} → Put (twoBytes x) rule at r after → r ≡ at + 2
 unfolding twoBytes
 number-next x p = p .next-is
 
--- What is put of each.
+-- Each number that a body has, put behind the one before it, is the body.
 module _ (k a b : ℕ) {rule : List ℕ} {at : ℕ} where
   pub puts-none : k ≡ 0 → Put (numbers k a b) rule at at rule
   puts-none e = put-as (sym (body-none k a b e)) (rw add-zero at (put-none rule at))
@@ -77,11 +79,13 @@ record-length : (kind a b : ℕ) → length (recordOf (entry kind a b)) ≡ 4 + 
 unfolding recordOf twoBytes bodyOf
 record-length kind a b = omega arith
 
+-- Where there is room for a record, there are that many bytes.
 pub record-room : (kind a b : ℕ) {rule : List ℕ} {w : Written} → Asks (oneMore kind a b) rule w
     → w .bytes + (4 + length (numbers (rowOf kind .arguments) a b)) ≤ length rule
 record-room kind a b k =
     let e = entry kind a b in
-    omega (arith, k .filled .bytes-are .next-is, k .room, ap length (put-bytes (k .es) e), length-append (ruleBytes (k .es)) (recordOf e), record-length kind a b)
+    let l = length-append (ruleBytes (k .es)) (recordOf e) in
+    omega (arith, l, k .filled .bytes-are .next-is, k .room, ap length (put-bytes (k .es) e), record-length kind a b)
 
 -- Its length, its kind and its body put behind what is written are one entry more.
 pub record-puts : (kind a b : ℕ) {rule one two three : List ℕ} {entries bytes r s t : ℕ} {w : Written}

@@ -1,6 +1,6 @@
 -- The whole rule: what the writer is given, and what it leaves. Assumes nothing.
 use Prim.Native.Nat.{ℕ, _≤_}
-use mathlib.Core.Path.{_≡_, refl, sym, ap, _∙_}
+use mathlib.Core.Path.{_≡_, refl, ap, _∙_}
 use mathlib.Core.List.{List, [], _++_}
 use native.Mathlib.Nat.{zero-add}
 use lib.ListN.{length, drop}
@@ -9,7 +9,7 @@ use Rattle.grammar.specs.Rules.{ruleBytes}
 use Rattle.text.specs.Rendered.{putAt}
 use Rattle.text.proofs.PutLaws.{put-none}
 use Rattle.paths.specs.Syntax.{Test}
-use Rattle.paths.specs.Translation.{putT, tableOf}
+use Rattle.paths.specs.Translation.{tableOf}
 use Rattle.parse.specs.Rows.{HeldT}
 use Rattle.typing.specs.declared.put.Written.{Written}
 use Rattle.typing.specs.Writing.{made, Filled, Asks, Puts}

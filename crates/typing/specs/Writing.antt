@@ -1,7 +1,7 @@
 -- What the writer's functions ask and promise: what it puts by the numbers of a row alone, when the buffer is filled with a table's
 -- records, and changes of a table that a buffer has room for. Nothing here has to be believed: the promise of `write_rule` cites none of it.
 -- Laws: proofs/Changes.antt, proofs/Made.antt. Assumes nothing.
-use Prim.Native.Nat.{ℕ, zero, suc, _-_, _*_, _≤_, _<_, pred}
+use Prim.Native.Nat.{ℕ, zero, suc, _-_, _*_, _≤_, _<_}
 use mathlib.Core.Path.{_≡_}
 use mathlib.Core.Bool.{cond, _&&_}
 use mathlib.Core.List.{List}
@@ -72,9 +72,11 @@ unfoldable pub fromRows : List ℕ → (enough n : ℕ) → Change
 fromRows rows zero n es = es
 fromRows rows (suc k) n es = partEntries (partAt rows n) (fromRows rows k) es
 
+-- The same, with just enough.
 abbrev pub made : List ℕ → (n : ℕ) → Change
 made rows n = fromRows rows n n
 
+-- What the rest of a path from row n puts; row 0 is no row, but the path's end.
 abbrev pub restMade : List ℕ → (n : ℕ) → Change
 restMade rows n = restEntries n (made rows)
 

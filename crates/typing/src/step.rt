@@ -50,8 +50,8 @@ pub(crate) fn put_tested(rule: &mut [u8], w: Written, form: u16, argument: u16) 
     ensures { λ r. ⌜ Puts (testedEntries form argument) (now (rule .entry)) w (now (rule .exit)) r ⌝ }
 {
     match form {
-        5..=5 => put_record(rule, w, 5, argument, last(w)),
-        14..=14 => put_down(rule, w, argument),
+        5 => put_record(rule, w, 5, argument, last(w)),
+        14 => put_down(rule, w, argument),
         _ => put_beside(rule, w, form, argument),
     }
 }

@@ -1,4 +1,5 @@
-// The writer: it follows the rows of a text's tree, whose numbers fall, and puts the entries.
+// The writer: it follows the rows of a text's tree and puts the entries. The rows that a row names
+// stand below it, so it ends, and no call stands more than 128 deep.
 ghost use mathlib.Core.Path.{_≡_};
 ghost use Prim.Native.Nat.{_≤_};
 ghost use lib.ListN.{length};
@@ -24,16 +25,16 @@ fn write(rows: &[u16; 192], n: u16, rule: &mut [u8], w: Written) -> Written
     let part = part_at(rows, n);
     let form = part.form;
     match form {
-        1..=1 => put_record(rule, w, 1, 0, 0),
-        2..=2 => put_record(rule, w, 2, part.first, 0),
-        3..=3 => {
-            let x = write(rows, part.first, rule, w);
-            put_record(rule, x, 3, last(x), 0)
+        1 => put_record(rule, w, 1, 0, 0),
+        2 => put_record(rule, w, 2, part.first, 0),
+        3 => {
+            let test = write(rows, part.first, rule, w);
+            put_record(rule, test, 3, last(test), 0)
         }
-        4..=4 => {
-            let x = write(rows, part.first, rule, w);
-            let y = write(rows, part.second, rule, x);
-            put_record(rule, y, 4, last(x), last(y))
+        4 => {
+            let left = write(rows, part.first, rule, w);
+            let right = write(rows, part.second, rule, left);
+            put_record(rule, right, 4, last(left), last(right))
         }
         6..=13 => {
             let rest = write_rest(rows, part.second, rule, w);
@@ -41,8 +42,8 @@ fn write(rows: &[u16; 192], n: u16, rule: &mut [u8], w: Written) -> Written
         }
         _ => {
             let rest = write_rest(rows, part.second, rule, w);
-            let x = write(rows, part.first, rule, rest);
-            put_tested(rule, x, form, last(rest))
+            let test = write(rows, part.first, rule, rest);
+            put_tested(rule, test, form, last(rest))
         }
     }
 }

@@ -1,39 +1,46 @@
+-- `put_body` puts no number, one, or two. Assumes nothing.
 use native.Mathlib.Omega.{arith}
-use Rattle.typing.proofs.Records.{body-first, body-second, number-next, puts-none, puts-one, puts-two}
+use Rattle.typing.proofs.Records.{body-first, body-both, number-next, puts-none, puts-one, puts-two}
 use borrow.Author.Needs.{needs}
 use Rattle.typing.proofs.put.put_body.Statement.{statement}
 use Rattle.typing.proofs.put.put_body.Tie as tie
-use Rattle.typing.proofs.put.put_body.Reads as reads
-use Rattle.typing.proofs.put.put_body.Lts as lts
-use Rattle.typing.proofs.put.put_number.Reads as put-number-reads
 
--- src/put.rt:40:9
 returns : tie.Need-returns
-returns c = puts-none (c .before .before .args .arguments) (c .before .before .args .a) (c .before .before .args .b) (c .if1 .taken)
+returns c = let s = c .before .before in puts-none (s .args .arguments) (s .args .a) (s .args .b) (c .if1 .taken)
 
--- src/put.rt:42:9
 put-number-requires : tie.Need-put-number-requires
-put-number-requires c κs = omega (arith, body-first (c .before .before .before .args .arguments) (c .before .before .before .args .a) (c .before .before .before .args .b) (c .before .if1 .left))
+put-number-requires c κs =
+    let s = c .before .before .before in
+    omega (arith, body-first (s .args .arguments) (s .args .a) (s .args .b) (c .before .if1 .left))
 
--- src/put.rt:44:9
 same-length : tie.Need-same-length
 same-length c = search needs
 
--- src/put.rt:44:9
 returns-2 : tie.Need-returns-2
-returns-2 c = puts-one (c .before .before .before .before .before .before .before .args .arguments) (c .before .before .before .before .before .before .before .args .a) (c .before .before .before .before .before .before .before .args .b) (c .if2 .taken) (c .before .before .before .put-number .ensures)
+returns-2 c =
+    let x1 = c .before .before .before in
+    let s = x1 .before .before .before .before in
+    puts-one (s .args .arguments) (s .args .a) (s .args .b) (c .if2 .taken) (x1 .put-number .ensures)
 
--- src/put.rt:46:5
 put-number-requires-2 : tie.Need-put-number-requires-2
-put-number-requires-2 c κs = omega (arith, number-next (c .before .before .before .before .before .before .before .before .args .a) (c .before .before .before .before .put-number .ensures), body-second (c .before .before .before .before .before .before .before .before .args .arguments) (c .before .before .before .before .before .before .before .before .args .a) (c .before .before .before .before .before .before .before .before .args .b) (c .before .before .before .before .before .before .if1 .left) (c .before .if2 .left))
+put-number-requires-2 c κs =
+    let x1 = c .before .before .before .before in
+    let x2 = x1 .before .before in
+    let s = x2 .before .before in
+    let f = body-both (s .args .arguments) (s .args .a) (s .args .b) (x2 .if1 .left) (c .before .if2 .left) in
+    omega (arith, f, number-next (s .args .a) (x1 .put-number .ensures))
 
--- src/put.rt:35:1
 same-length-2 : tie.Need-same-length-2
 same-length-2 c = search needs
 
--- src/put.rt:35:1
 returns-3 : tie.Need-returns-3
-returns-3 c = puts-two (c .before .before .before .before .before .before .before .before .before .before .before .args .arguments) (c .before .before .before .before .before .before .before .before .before .before .before .args .a) (c .before .before .before .before .before .before .before .before .before .before .before .args .b) (c .before .before .before .before .before .before .before .before .before .if1 .left) (c .before .before .before .before .if2 .left) (c .before .before .before .before .before .before .before .put-number .ensures) (c .before .before .put-number2 .ensures)
+returns-3 c =
+    let x1 = c .before .before in
+    let x2 = x1 .before .before in
+    let x3 = x2 .before .before .before in
+    let x4 = x3 .before .before in
+    let s = x4 .before .before in
+    puts-two (s .args .arguments) (s .args .a) (s .args .b) (x4 .if1 .left) (x2 .if2 .left) (x3 .put-number .ensures) (x1 .put-number2 .ensures)
 
 pub put-body-spec : {M : Type 1} → statement M
 put-body-spec =

@@ -1,46 +1,56 @@
+-- `put_record` puts the length of the kind, the kind and the body. Assumes nothing.
 use mathlib.Core.Path.{refl}
 use native.Mathlib.Omega.{arith}
 use Rattle.typing.proofs.Records.{number-next, record-few, record-room, record-puts, length-small}
 use borrow.Author.Needs.{needs}
 use Rattle.typing.proofs.put.put_record.Statement.{statement}
 use Rattle.typing.proofs.put.put_record.Tie as tie
-use Rattle.typing.proofs.put.put_record.Reads as reads
-use Rattle.typing.proofs.put.put_record.Lts as lts
-use Rattle.records.proofs.kind.row_of.Reads as row-of-reads
-use Rattle.typing.proofs.put.put_body.Reads as put-body-reads
-use Rattle.typing.proofs.put.put_number.Reads as put-number-reads
 
--- src/put.rt:54:9
 row-of-requires : tie.Need-row-of-requires
 row-of-requires c κs = search needs
 
--- src/put.rt:55:41
 cast-put-number : tie.Need-cast-put-number
-cast-put-number c = rw (c .before .before .row-of .ensures) (omega (arith, length-small (c .before .before .before .before .args .kind)))
+cast-put-number c = let x1 = c .before .before in let s = x1 .before .before in rw (x1 .row-of .ensures) (omega (arith, length-small (s .args .kind)))
 
--- src/put.rt:55:9
 put-number-requires : tie.Need-put-number-requires
-put-number-requires c κs = omega (arith, record-room (c .before .before .before .before .args .kind) (c .before .before .before .before .args .a) (c .before .before .before .before .args .b) (c .before .before .before .before .pre))
+put-number-requires c κs = let s = c .before .before .before .before in omega (arith, record-room (s .args .kind) (s .args .a) (s .args .b) (s .pre))
 
--- src/put.rt:56:9
 put-number-requires-2 : tie.Need-put-number-requires-2
-put-number-requires-2 c κs = omega (arith, record-room (c .before .before .before .before .before .before .before .before .args .kind) (c .before .before .before .before .before .before .before .before .args .a) (c .before .before .before .before .before .before .before .before .args .b) (c .before .before .before .before .before .before .before .before .pre), number-next (c .before .before .before .before .before .before .row-of .result .length) (c .before .before .before .put-number .ensures))
+put-number-requires-2 c κs =
+    let x1 = c .before .before .before in
+    let x2 = x1 .before .before .before in
+    let s = x2 .before .before in
+    let l = record-room (s .args .kind) (s .args .a) (s .args .b) (s .pre) in
+    omega (arith, l, number-next (x2 .row-of .result .length) (x1 .put-number .ensures))
 
--- src/put.rt:57:9
 put-body-requires : tie.Need-put-body-requires
-put-body-requires c κs = rw (c .before .before .before .before .before .before .before .before .before .before .row-of .ensures) (omega (arith, record-room (c .before .before .before .before .before .before .before .before .before .before .before .before .args .kind) (c .before .before .before .before .before .before .before .before .before .before .before .before .args .a) (c .before .before .before .before .before .before .before .before .before .before .before .before .args .b) (c .before .before .before .before .before .before .before .before .before .before .before .before .pre), number-next (c .before .before .before .before .before .before .before .before .before .before .row-of .result .length) (c .before .before .before .before .before .before .before .put-number .ensures), number-next (c .before .before .before .before .before .before .before .before .before .before .before .before .args .kind) (c .before .before .before .put-number2 .ensures)))
+put-body-requires c κs =
+    let x1 = c .before .before .before in
+    let x2 = x1 .before .before .before .before in
+    let x3 = x2 .before .before .before in
+    let s = x3 .before .before in
+    let l = record-room (s .args .kind) (s .args .a) (s .args .b) (s .pre) in
+    let f = number-next (x3 .row-of .result .length) (x2 .put-number .ensures) in
+    rw (x3 .row-of .ensures) (omega (arith, l, f, number-next (s .args .kind) (x1 .put-number2 .ensures)))
 
--- src/put.rt:59:18
 add-t13 : tie.Need-add-t13
-add-t13 c = omega (arith, record-few (c .before .before .before .before .before .before .before .before .before .before .before .before .before .before .before .before .args .kind) (c .before .before .before .before .before .before .before .before .before .before .before .before .before .before .before .before .args .a) (c .before .before .before .before .before .before .before .before .before .before .before .before .before .before .before .before .args .b) (c .before .before .before .before .before .before .before .before .before .before .before .before .before .before .before .before .pre))
+add-t13 c =
+    let s = c .before .before .before .before .before .before .before .before .before .before .before .before .before .before .before .before in
+    omega (arith, record-few (s .args .kind) (s .args .a) (s .args .b) (s .pre))
 
--- src/put.rt:50:1
 same-length : tie.Need-same-length
 same-length c = search needs
 
--- src/put.rt:50:1
 returns : tie.Need-returns
-returns c = record-puts (c .before .before .before .before .before .before .before .before .before .before .before .before .before .before .before .before .args .kind) (c .before .before .before .before .before .before .before .before .before .before .before .before .before .before .before .before .args .a) (c .before .before .before .before .before .before .before .before .before .before .before .before .before .before .before .before .args .b) {w = c .before .before .before .before .before .before .before .before .before .before .before .before .before .before .before .before .args .w} (rw (c .before .before .before .before .before .before .before .before .before .before .before .before .before .before .row-of .ensures) at (c .before .before .before .before .before .before .before .before .before .before .before .put-number .ensures)) (c .before .before .before .before .before .before .before .put-number2 .ensures) (rw (c .before .before .before .before .before .before .before .before .before .before .before .before .before .before .row-of .ensures) at (c .before .before .before .put-body .ensures)) refl refl
+returns c =
+    let x1 = c .before .before .before in
+    let x2 = x1 .before .before .before .before in
+    let x3 = x2 .before .before .before .before in
+    let x4 = x3 .before .before .before in
+    let s = x4 .before .before in
+    let e = x4 .row-of .ensures in
+    record-puts (s .args .kind) (s .args .a) (s .args .b) {w = s .args .w} (rw e at (x3 .put-number .ensures))
+    (x2 .put-number2 .ensures) (rw e at (x1 .put-body .ensures)) refl refl
 
 pub put-record-spec : {M : Type 1} → statement M
 put-record-spec =

@@ -1,51 +1,69 @@
+-- `put_down` puts four records. Assumes nothing.
 use Rattle.typing.proofs.Steps.{down-first, down-second, down-third, down-fourth, down-puts}
 use borrow.Author.Needs.{needs}
 use Rattle.typing.proofs.step.put_down.Statement.{statement}
 use Rattle.typing.proofs.step.put_down.Tie as tie
-use Rattle.typing.proofs.step.put_down.Reads as reads
-use Rattle.typing.proofs.step.put_down.Lts as lts
-use Rattle.typing.proofs.put.last.Reads as last-reads
-use Rattle.typing.proofs.put.put_record.Reads as put-record-reads
 
--- src/step.rt:30:9
 last-requires : tie.Need-last-requires
 last-requires c κs = search needs
 
--- src/step.rt:31:9
 put-record-requires : tie.Need-put-record-requires
-put-record-requires c κs = down-first (c .before .before .before .args .argument) (c .before .before .before .pre .1) (c .before .last .ensures)
+put-record-requires c κs = let s = c .before .before .before in down-first (s .args .argument) (s .pre .1) (c .before .last .ensures)
 
--- src/step.rt:32:49
 last-requires-2 : tie.Need-last-requires-2
 last-requires-2 c κs = search needs
 
--- src/step.rt:32:9
 put-record-requires-2 : tie.Need-put-record-requires-2
-put-record-requires-2 c κs = down-second (c .before .before .before .before .before .before .before .before .args .argument) (c .before .before .before .before .before .before .before .before .pre .1) (c .before .before .before .before .before .before .last .ensures) (c .before .before .before .before .put-record .ensures) (c .last2 .ensures)
+put-record-requires-2 c κs =
+    let x1 = c .before .before .before .before in
+    let x2 = x1 .before .before in
+    let s = x2 .before .before in
+    down-second (s .args .argument) (s .pre .1) (x2 .last .ensures) (x1 .put-record .ensures) (c .last2 .ensures)
 
--- src/step.rt:33:43
 last-requires-3 : tie.Need-last-requires-3
 last-requires-3 c κs = search needs
 
--- src/step.rt:33:9
 put-record-requires-3 : tie.Need-put-record-requires-3
-put-record-requires-3 c κs = down-third (c .before .before .before .before .before .before .before .before .before .before .before .before .before .args .argument) (c .before .before .before .before .before .before .before .before .before .before .before .before .before .pre .1) (c .before .before .before .before .before .before .before .before .before .before .before .last .ensures) (c .before .before .before .before .before .before .before .before .before .put-record .ensures) (c .before .before .before .before .before .last2 .ensures) (c .before .before .before .before .put-record2 .ensures) (c .last3 .ensures)
+put-record-requires-3 c κs =
+    let x1 = c .before .before .before .before in
+    let x2 = x1 .before in
+    let x3 = x2 .before .before .before .before in
+    let x4 = x3 .before .before in
+    let s = x4 .before .before in
+    down-third (s .args .argument) (s .pre .1) (x4 .last .ensures) (x3 .put-record .ensures) (x2 .last2 .ensures)
+    (x1 .put-record2 .ensures) (c .last3 .ensures)
 
--- src/step.rt:34:42
 last-requires-4 : tie.Need-last-requires-4
 last-requires-4 c κs = search needs
 
--- src/step.rt:34:5
 put-record-requires-4 : tie.Need-put-record-requires-4
-put-record-requires-4 c κs = down-fourth (c .before .before .before .before .before .before .before .before .before .before .before .before .before .before .before .before .before .before .args .argument) (c .before .before .before .before .before .before .before .before .before .before .before .before .before .before .before .before .before .before .pre .1) (c .before .before .before .before .before .before .before .before .before .before .before .before .before .before .before .before .last .ensures) (c .before .before .before .before .before .before .before .before .before .before .before .before .before .before .put-record .ensures) (c .before .before .before .before .before .before .before .before .before .before .last2 .ensures) (c .before .before .before .before .before .before .before .before .before .put-record2 .ensures) (c .before .before .before .before .before .last3 .ensures) (c .before .before .before .before .put-record3 .ensures) (c .last4 .ensures)
+put-record-requires-4 c κs =
+    let x1 = c .before .before .before .before in
+    let x2 = x1 .before in
+    let x3 = x2 .before .before .before .before in
+    let x4 = x3 .before in
+    let x5 = x4 .before .before .before .before in
+    let x6 = x5 .before .before in
+    let s = x6 .before .before in
+    down-fourth (s .args .argument) (s .pre .1) (x6 .last .ensures) (x5 .put-record .ensures) (x4 .last2 .ensures)
+    (x3 .put-record2 .ensures) (x2 .last3 .ensures) (x1 .put-record3 .ensures) (c .last4 .ensures)
 
--- src/step.rt:26:1
 same-length : tie.Need-same-length
 same-length c = search needs
 
--- src/step.rt:26:1
 returns : tie.Need-returns
-returns c = down-puts (c .before .before .before .before .before .before .before .before .before .before .before .before .before .before .before .before .before .before .before .before .before .args .argument) (c .before .before .before .before .before .before .before .before .before .before .before .before .before .before .before .before .before .before .before .before .before .pre .1) (c .before .before .before .before .before .before .before .before .before .before .before .before .before .before .before .before .before .before .before .last .ensures) (c .before .before .before .before .before .before .before .before .before .before .before .before .before .before .before .before .before .put-record .ensures) (c .before .before .before .before .before .before .before .before .before .before .before .before .before .last2 .ensures) (c .before .before .before .before .before .before .before .before .before .before .before .before .put-record2 .ensures) (c .before .before .before .before .before .before .before .before .last3 .ensures) (c .before .before .before .before .before .before .before .put-record3 .ensures) (c .before .before .before .last4 .ensures) (c .before .before .put-record4 .ensures)
+returns c =
+    let x1 = c .before .before in
+    let x2 = x1 .before in
+    let x3 = x2 .before .before .before .before in
+    let x4 = x3 .before in
+    let x5 = x4 .before .before .before .before in
+    let x6 = x5 .before in
+    let x7 = x6 .before .before .before .before in
+    let x8 = x7 .before .before in
+    let s = x8 .before .before in
+    down-puts (s .args .argument) (s .pre .1) (x8 .last .ensures) (x7 .put-record .ensures) (x6 .last2 .ensures)
+    (x5 .put-record2 .ensures) (x4 .last3 .ensures) (x3 .put-record3 .ensures) (x2 .last4 .ensures) (x1 .put-record4 .ensures)
 
 pub put-down-spec : {M : Type 1} → statement M
 put-down-spec =

@@ -1,9 +1,12 @@
+-- `write` calls itself and `write_rest` on rows below its own, and `write_rest` calls `write` on its own row: the measures are twice the row,
+-- and one more. Assumes nothing.
 use Prim.Native.Nat.{_+_, _*_, _≤_}
 use native.Mathlib.Omega.{arith}
 use mathlib.Core.Logic.{⊎-elim}
 use borrow.Author.Needs.{needs}
-use Rattle.typing.proofs.Made.{held-there}
-use Rattle.typing.proofs.Writer.{not-below, left-below, right-below, plain-below, tested-rest, tested-below, tested-form, true-asks, true-puts, label-asks, label-puts, not-first, not-second, not-puts, or-first, or-second, or-third, or-puts, plain-first, plain-second, plain-puts, tested-first, tested-second, tested-third, tested-puts, end-asks, end-puts, more-asks, more-puts}
+use Rattle.typing.proofs.Changes.{asks-as, puts-as}
+use Rattle.typing.proofs.Below.{OfStep, held-row}
+use Rattle.typing.proofs.Writer.{Reading, test-below, tested-below, right-below, rest-below, tested-form, true-asks, true-puts, label-asks, label-puts, not-first, not-second, not-puts, or-first, or-second, or-third, or-puts, plain-first, plain-second, plain-puts, tested-first, tested-second, tested-third, tested-puts, rest-none, rest-some}
 use Prim.Native.Nat.{ℕ, _<_}
 use borrow.Fn.Kinds.{In}
 use borrow.Fn.PlainCycle.{Measures, is, falls, and}
@@ -41,151 +44,267 @@ abbrev write-rest-below : ℕ → In 2 write-rest-kinds.ps
 write-rest-below t =
     and 2 write-rest-kinds.ps (falls 2 write-rest-kinds.ps _<_ μ-write-rest t) write-rest.Pre
 
+-- What is known of the calls.
 abbrev write-calls : ℕ → write-lts.Claims
-write-calls t = (part-at-reads.Asked, part-at-reads.Learnt, put-record-reads.Asked, put-record-reads.Learnt, write-below t, write.Post, last-reads.Asked, last-reads.Learnt, write-rest-below t, write-rest.Post, put-plain-reads.Asked, put-plain-reads.Learnt, put-tested-reads.Asked, put-tested-reads.Learnt)
+write-calls t = (
+  part-at-reads.Asked,
+  part-at-reads.Learnt,
+  put-record-reads.Asked,
+  put-record-reads.Learnt,
+  write-below t,
+  write.Post,
+  last-reads.Asked,
+  last-reads.Learnt,
+  write-rest-below t,
+  write-rest.Post,
+  put-plain-reads.Asked,
+  put-plain-reads.Learnt,
+  put-tested-reads.Asked,
+  put-tested-reads.Learnt,
+)
 
 abbrev write-rest-calls : ℕ → write-rest-lts.Claims
 write-rest-calls t = (put-record-reads.Asked, put-record-reads.Learnt, write-below t, write.Post)
 
--- src/write.rt:24:9
+-- The row is read.
+reading : (t : ℕ) (c : write-lts.After-part-at (write-calls t) (write-at t) write.Post)
+    → (let a = c .before .before .args in Reading (a .rows .now) (a .n) (c .part-at .result) (a .rule .now) (a .w))
+reading t c = record { held = c .before .before .pre .1 .1; part-is = c .part-at .ensures; asks = c .before .before .pre .1 .2 }
+
+-- It is a step's.
+of-step : (t : ℕ) (c : write-lts.At-match-rest (write-calls t) (write-at t) write.Post) → OfStep (c .before .part-at .result .form)
+of-step t c = let m = c .match .rest in (m .0 .0 .0 .1, m .0 .0 .1, m .0 .1, m .1)
+
+-- .. and the step has a test.
+with-test : (t : ℕ) (c : write-lts.Joined1 (write-calls t) (write-at t) write.Post)
+    → (let p = c .before .before .part-at .result in 6 ≤ p .form → 14 ≤ p .form)
+with-test t c l = ⊎-elim (λ x. omega (arith, l, x .taken)) (λ x. x .1 .left) (c .if1 .came)
+
 write-part-at-requires : (t : ℕ) → write-lts.Need-part-at-requires (write-calls t) (write-at t) write.Post
-write-part-at-requires t c κs = (held-there (c .before .args .rows .now) (c .before .args .n) (c .before .pre .1 .1), c .before .pre .1 .0)
+write-part-at-requires t c κs = let s = c .before in (held-row (s .args .rows .now) (s .args .n) (s .pre .1 .1) .0, s .pre .1 .0)
 
--- src/write.rt:27:18
 write-put-record-requires : (t : ℕ) → write-lts.Need-put-record-requires (write-calls t) (write-at t) write.Post
-write-put-record-requires t c κs = true-asks (c .before .before .before .before .args .rows .now) (c .before .before .before .before .args .n) (c .before .before .before .before .pre .1 .1) (c .before .before .part-at .ensures) (c .before .match .keys1) (c .before .before .before .before .pre .1 .2)
+write-put-record-requires t c κs = true-asks (reading t (c .before .before)) (c .before .match .keys1)
 
--- src/write.rt:28:18
 write-put-record-requires-2 : (t : ℕ) → write-lts.Need-put-record-requires-2 (write-calls t) (write-at t) write.Post
-write-put-record-requires-2 t c κs = label-asks (c .before .before .before .before .args .rows .now) (c .before .before .before .before .args .n) (c .before .before .before .before .pre .1 .1) (c .before .before .part-at .ensures) (c .before .match .keys2) (c .before .before .before .before .pre .1 .2)
+write-put-record-requires-2 t c κs = label-asks (reading t (c .before .before)) (c .before .match .keys2)
 
--- src/write.rt:30:17
 write-write-requires : (t : ℕ) → write-lts.Need-write-requires (write-calls t) (write-at t) write.Post
-write-write-requires t c κs = let f = not-below (c .before .before .before .before .args .rows .now) (c .before .before .before .before .args .n) (c .before .before .before .before .pre .1 .1) (c .before .before .part-at .ensures) (c .before .match .keys3) in (omega (arith, f .0, c .before .before .before .before .pre .0), (omega (arith, f .0, c .before .before .before .before .pre .1 .0), f .1, not-first (c .before .before .before .before .args .rows .now) (c .before .before .before .before .args .n) (c .before .before .before .before .pre .1 .1) (c .before .before .part-at .ensures) (c .before .match .keys3) (c .before .before .before .before .pre .1 .2)))
+write-write-requires t c κs =
+    let x1 = c .before .before in
+    let s = x1 .before .before in
+    let x = reading t x1 in
+    let b = test-below x 3 (c .before .match .keys3) (omega arith) (omega arith) in
+    (omega (arith, b .0, s .pre .0), (omega (arith, b .0, s .pre .1 .0), b .1, not-first x (c .before .match .keys3)))
 
--- src/write.rt:31:36
 write-last-requires : (t : ℕ) → write-lts.Need-last-requires (write-calls t) (write-at t) write.Post
 write-last-requires t c κs = omega (arith, c .before .before .before .write .ensures .more)
 
--- src/write.rt:31:13
 write-put-record-requires-3 : (t : ℕ) → write-lts.Need-put-record-requires-3 (write-calls t) (write-at t) write.Post
-write-put-record-requires-3 t c κs = not-second (c .before .before .before .before .before .before .before .before .before .args .rows .now) (c .before .before .before .before .before .before .before .before .before .args .n) (c .before .before .before .before .before .before .before .before .before .pre .1 .1) (c .before .before .before .before .before .before .before .part-at .ensures) (c .before .before .before .before .before .before .match .keys3) (c .before .before .before .before .write .ensures) (c .last .ensures) (c .before .before .before .before .before .before .before .before .before .pre .1 .2)
+write-put-record-requires-3 t c κs =
+    let x1 = c .before .before .before .before in
+    let x2 = x1 .before .before in
+    let x3 = x2 .before in
+    not-second (reading t x3) (x2 .match .keys3) (x1 .write .ensures) (c .last .ensures)
 
--- src/write.rt:34:17
 write-write-requires-2 : (t : ℕ) → write-lts.Need-write-requires-2 (write-calls t) (write-at t) write.Post
-write-write-requires-2 t c κs = let f = left-below (c .before .before .before .before .args .rows .now) (c .before .before .before .before .args .n) (c .before .before .before .before .pre .1 .1) (c .before .before .part-at .ensures) (c .before .match .keys4) in (omega (arith, f .0, c .before .before .before .before .pre .0), (omega (arith, f .0, c .before .before .before .before .pre .1 .0), f .1, or-first (c .before .before .before .before .args .rows .now) (c .before .before .before .before .args .n) (c .before .before .before .before .pre .1 .1) (c .before .before .part-at .ensures) (c .before .match .keys4) (c .before .before .before .before .pre .1 .2)))
+write-write-requires-2 t c κs =
+    let x1 = c .before .before in
+    let s = x1 .before .before in
+    let x = reading t x1 in
+    let b = test-below x 4 (c .before .match .keys4) (omega arith) (omega arith) in
+    (omega (arith, b .0, s .pre .0), (omega (arith, b .0, s .pre .1 .0), b .1, or-first x (c .before .match .keys4)))
 
--- src/write.rt:35:17
 write-write-requires-3 : (t : ℕ) → write-lts.Need-write-requires-3 (write-calls t) (write-at t) write.Post
-write-write-requires-3 t c κs = let f = right-below (c .before .before .before .before .before .before .before .before .args .rows .now) (c .before .before .before .before .before .before .before .before .args .n) (c .before .before .before .before .before .before .before .before .pre .1 .1) (c .before .before .before .before .before .before .part-at .ensures) (c .before .before .before .before .before .match .keys4) in (omega (arith, f .0, c .before .before .before .before .before .before .before .before .pre .0), (omega (arith, f .0, c .before .before .before .before .before .before .before .before .pre .1 .0), f .1, or-second (c .before .before .before .before .before .before .before .before .args .rows .now) (c .before .before .before .before .before .before .before .before .args .n) (c .before .before .before .before .before .before .before .before .pre .1 .1) (c .before .before .before .before .before .before .part-at .ensures) (c .before .before .before .before .before .match .keys4) (c .before .before .before .write2 .ensures) (c .before .before .before .before .before .before .before .before .pre .1 .2)))
+write-write-requires-3 t c κs =
+    let x1 = c .before .before .before in
+    let x2 = x1 .before .before in
+    let x3 = x2 .before in
+    let s = x3 .before .before in
+    let x = reading t x3 in
+    let b = right-below x (x2 .match .keys4) in
+    (omega (arith, b .0, s .pre .0), (omega (arith, b .0, s .pre .1 .0), b .1, or-second x (x2 .match .keys4) (x1 .write2 .ensures)))
 
--- src/write.rt:36:36
 write-last-requires-2 : (t : ℕ) → write-lts.Need-last-requires-2 (write-calls t) (write-at t) write.Post
 write-last-requires-2 t c κs = omega (arith, c .before .before .before .before .before .before .before .write2 .ensures .more)
 
--- src/write.rt:36:45
 write-last-requires-3 : (t : ℕ) → write-lts.Need-last-requires-3 (write-calls t) (write-at t) write.Post
 write-last-requires-3 t c κs = omega (arith, c .before .before .before .before .write3 .ensures .more)
 
--- src/write.rt:36:13
 write-put-record-requires-4 : (t : ℕ) → write-lts.Need-put-record-requires-4 (write-calls t) (write-at t) write.Post
-write-put-record-requires-4 t c κs = or-third (c .before .before .before .before .before .before .before .before .before .before .before .before .before .before .args .rows .now) (c .before .before .before .before .before .before .before .before .before .before .before .before .before .before .args .n) (c .before .before .before .before .before .before .before .before .before .before .before .before .before .before .pre .1 .1) (c .before .before .before .before .before .before .before .before .before .before .before .before .part-at .ensures) (c .before .before .before .before .before .before .before .before .before .before .before .match .keys4) (c .before .before .before .before .before .before .before .before .before .write2 .ensures) (c .before .before .before .before .before .write3 .ensures) (c .before .last2 .ensures) (c .last3 .ensures) (c .before .before .before .before .before .before .before .before .before .before .before .before .before .before .pre .1 .2)
+write-put-record-requires-4 t c κs =
+    let x1 = c .before .before .before .before .before in
+    let x2 = x1 .before .before .before .before in
+    let x3 = x2 .before .before in
+    let x4 = x3 .before in
+    or-third (reading t x4) (x3 .match .keys4) (x2 .write2 .ensures) (x1 .write3 .ensures) (c .before .last2 .ensures) (c .last3 .ensures)
 
--- src/write.rt:39:17
 write-write-rest-requires : (t : ℕ) → write-lts.Need-write-rest-requires (write-calls t) (write-at t) write.Post
-write-write-rest-requires t c κs = let f = plain-below (c .before .before .before .before .before .before .args .rows .now) (c .before .before .before .before .before .before .args .n) (c .before .before .before .before .before .before .pre .1 .1) (c .before .before .before .before .part-at .ensures) (c .before .before .if1 .left) in (omega (arith, f .0, c .before .before .before .before .before .before .pre .0), (omega (arith, f .0, c .before .before .before .before .before .before .pre .1 .0), f .1, plain-first (c .before .before .before .before .before .before .args .rows .now) (c .before .before .before .before .before .before .args .n) (c .before .before .before .before .before .before .pre .1 .1) (c .before .before .before .before .part-at .ensures) (c .before .before .if1 .left) (c .before .if2 .taken) (c .before .before .before .before .before .before .pre .1 .2)))
+write-write-rest-requires t c κs =
+    let x1 = c .before .before in
+    let x2 = x1 .before in
+    let x3 = x2 .before in
+    let s = x3 .before .before in
+    let x = reading t x3 in
+    let h = of-step t x2 in
+    let b = rest-below x h in
+    (omega (arith, b .0, s .pre .0), (omega (arith, b .0, s .pre .1 .0), b .1, plain-first x h (x1 .if1 .left) (c .before .if2 .taken)))
 
--- src/write.rt:40:13
 write-put-plain-requires : (t : ℕ) → write-lts.Need-put-plain-requires (write-calls t) (write-at t) write.Post
-write-put-plain-requires t c κs = (omega (arith, c .before .before .before .write-rest .ensures .more), plain-second (c .before .before .before .before .before .before .before .before .before .before .args .rows .now) (c .before .before .before .before .before .before .before .before .before .before .args .n) (c .before .before .before .before .before .before .before .before .before .before .pre .1 .1) (c .before .before .before .before .before .before .before .before .part-at .ensures) (c .before .before .before .before .before .before .if1 .left) (c .before .before .before .before .before .if2 .taken) (c .before .before .before .write-rest .ensures) (c .before .before .before .before .before .before .before .before .before .before .pre .1 .2))
+write-put-plain-requires t c κs =
+    let x1 = c .before .before .before in
+    let x2 = x1 .before .before in
+    let x3 = x2 .before in
+    let x4 = x3 .before in
+    let x5 = x4 .before in
+    let h = of-step t x4 in
+    (omega (arith, x1 .write-rest .ensures .more), plain-second (reading t x5) h (x3 .if1 .left) (x2 .if2 .taken) (x1 .write-rest .ensures))
 
--- src/write.rt:43:17
 write-write-rest-requires-2 : (t : ℕ) → write-lts.Need-write-rest-requires-2 (write-calls t) (write-at t) write.Post
-write-write-rest-requires-2 t c κs = let f = tested-rest (c .before .before .before .before .before .args .rows .now) (c .before .before .before .before .before .args .n) (c .before .before .before .before .before .pre .1 .1) (c .before .before .before .part-at .ensures) (c .before .before .match .rest .0 .0 .0 .1, c .before .before .match .rest .0 .0 .1, c .before .before .match .rest .0 .1, c .before .before .match .rest .1) in (omega (arith, f .0, c .before .before .before .before .before .pre .0), (omega (arith, f .0, c .before .before .before .before .before .pre .1 .0), f .1, tested-first (c .before .before .before .before .before .args .rows .now) (c .before .before .before .before .before .args .n) (c .before .before .before .before .before .pre .1 .1) (c .before .before .before .part-at .ensures) (c .before .before .match .rest .0 .0 .0 .1, c .before .before .match .rest .0 .0 .1, c .before .before .match .rest .0 .1, c .before .before .match .rest .1) (λ l. ⊎-elim (λ x. omega (arith, l, x .taken)) (λ x. x .1 .left) (c .before .if1 .came)) (c .before .before .before .before .before .pre .1 .2)))
+write-write-rest-requires-2 t c κs =
+    let x1 = c .before .before in
+    let x2 = x1 .before in
+    let s = x2 .before .before in
+    let x = reading t x2 in
+    let h = of-step t x1 in
+    let b = rest-below x h in
+    (omega (arith, b .0, s .pre .0), (omega (arith, b .0, s .pre .1 .0), b .1, tested-first x h (with-test t (c .before))))
 
--- src/write.rt:44:17
 write-write-requires-4 : (t : ℕ) → write-lts.Need-write-requires-4 (write-calls t) (write-at t) write.Post
-write-write-requires-4 t c κs = let f = tested-below (c .before .before .before .before .before .before .before .before .before .args .rows .now) (c .before .before .before .before .before .before .before .before .before .args .n) (c .before .before .before .before .before .before .before .before .before .pre .1 .1) (c .before .before .before .before .before .before .before .part-at .ensures) (c .before .before .before .before .before .before .match .rest .0 .0 .0 .1, c .before .before .before .before .before .before .match .rest .0 .0 .1, c .before .before .before .before .before .before .match .rest .0 .1, c .before .before .before .before .before .before .match .rest .1) (λ l. ⊎-elim (λ x. omega (arith, l, x .taken)) (λ x. x .1 .left) (c .before .before .before .before .before .if1 .came)) in (omega (arith, f .0, c .before .before .before .before .before .before .before .before .before .pre .0), (omega (arith, f .0, c .before .before .before .before .before .before .before .before .before .pre .1 .0), f .1, tested-second (c .before .before .before .before .before .before .before .before .before .args .rows .now) (c .before .before .before .before .before .before .before .before .before .args .n) (c .before .before .before .before .before .before .before .before .before .pre .1 .1) (c .before .before .before .before .before .before .before .part-at .ensures) (c .before .before .before .before .before .before .match .rest .0 .0 .0 .1, c .before .before .before .before .before .before .match .rest .0 .0 .1, c .before .before .before .before .before .before .match .rest .0 .1, c .before .before .before .before .before .before .match .rest .1) (λ l. ⊎-elim (λ x. omega (arith, l, x .taken)) (λ x. x .1 .left) (c .before .before .before .before .before .if1 .came)) (c .before .before .before .write-rest2 .ensures) (c .before .before .before .before .before .before .before .before .before .pre .1 .2)))
+write-write-requires-4 t c κs =
+    let x1 = c .before .before .before in
+    let x2 = x1 .before .before in
+    let x3 = x2 .before in
+    let x4 = x3 .before in
+    let s = x4 .before .before in
+    let x = reading t x4 in
+    let h = of-step t x3 in
+    let k = with-test t x2 in
+    let b = tested-below x h k in
+    (omega (arith, b .0, s .pre .0), (omega (arith, b .0, s .pre .1 .0), b .1, tested-second x h k (x1 .write-rest2 .ensures)))
 
--- src/write.rt:45:39
 write-last-requires-4 : (t : ℕ) → write-lts.Need-last-requires-4 (write-calls t) (write-at t) write.Post
 write-last-requires-4 t c κs = omega (arith, c .before .before .before .before .before .before .before .write-rest2 .ensures .more)
 
--- src/write.rt:45:13
 write-put-tested-requires : (t : ℕ) → write-lts.Need-put-tested-requires (write-calls t) (write-at t) write.Post
-write-put-tested-requires t c κs = (omega (arith, c .before .before .before .before .write4 .ensures .more), tested-form (c .before .before .before .before .before .before .before .before .before .before .before .before .before .before .args .rows .now) (c .before .before .before .before .before .before .before .before .before .before .before .before .before .before .args .n) (c .before .before .before .before .before .before .before .before .before .before .before .before .before .before .pre .1 .1) (c .before .before .before .before .before .before .before .before .before .before .before .before .part-at .ensures) (c .before .before .before .before .before .before .before .before .before .before .before .match .rest .0 .0 .0 .1, c .before .before .before .before .before .before .before .before .before .before .before .match .rest .0 .0 .1, c .before .before .before .before .before .before .before .before .before .before .before .match .rest .0 .1, c .before .before .before .before .before .before .before .before .before .before .before .match .rest .1) (λ l. ⊎-elim (λ x. omega (arith, l, x .taken)) (λ x. x .1 .left) (c .before .before .before .before .before .before .before .before .before .before .if1 .came)), tested-third (c .before .before .before .before .before .before .before .before .before .before .before .before .before .before .args .rows .now) (c .before .before .before .before .before .before .before .before .before .before .before .before .before .before .args .n) (c .before .before .before .before .before .before .before .before .before .before .before .before .before .before .pre .1 .1) (c .before .before .before .before .before .before .before .before .before .before .before .before .part-at .ensures) (c .before .before .before .before .before .before .before .before .before .before .before .match .rest .0 .0 .0 .1, c .before .before .before .before .before .before .before .before .before .before .before .match .rest .0 .0 .1, c .before .before .before .before .before .before .before .before .before .before .before .match .rest .0 .1, c .before .before .before .before .before .before .before .before .before .before .before .match .rest .1) (λ l. ⊎-elim (λ x. omega (arith, l, x .taken)) (λ x. x .1 .left) (c .before .before .before .before .before .before .before .before .before .before .if1 .came)) (c .before .before .before .before .before .before .before .before .write-rest2 .ensures) (c .before .before .before .before .write4 .ensures) (c .last4 .ensures) (c .before .before .before .before .before .before .before .before .before .before .before .before .before .before .pre .1 .2))
+write-put-tested-requires t c κs =
+    let x1 = c .before .before .before .before in
+    let x2 = x1 .before .before .before .before in
+    let x3 = x2 .before .before in
+    let x4 = x3 .before in
+    let x5 = x4 .before in
+    let x = reading t x5 in
+    let h = of-step t x4 in
+    let k = with-test t x3 in
+    let a = tested-third x h k (x2 .write-rest2 .ensures) (x1 .write4 .ensures) (c .last4 .ensures) in
+    (omega (arith, x1 .write4 .ensures .more), tested-form x h k, a)
 
--- src/write.rt:20:1
 write-same-length : (t : ℕ) → write-lts.Need-same-length (write-calls t) (write-at t) write.Post
 write-same-length t c = search needs
 
--- src/write.rt:20:1
 write-returns : (t : ℕ) → write-lts.Need-returns (write-calls t) (write-at t) write.Post
-write-returns t c = true-puts (c .before .before .before .before .before .before .before .args .rows .now) (c .before .before .before .before .before .before .before .args .n) (c .before .before .before .before .before .before .before .pre .1 .1) (c .before .before .before .before .before .part-at .ensures) (c .before .before .before .before .match .keys1) (c .before .before .put-record .ensures)
+write-returns t c =
+    let x1 = c .before .before in
+    let x2 = x1 .before .before in
+    let x3 = x2 .before in
+    true-puts (reading t x3) (x2 .match .keys1) (x1 .put-record .ensures)
 
--- src/write.rt:20:1
 write-same-length-2 : (t : ℕ) → write-lts.Need-same-length-2 (write-calls t) (write-at t) write.Post
 write-same-length-2 t c = search needs
 
--- src/write.rt:20:1
 write-returns-2 : (t : ℕ) → write-lts.Need-returns-2 (write-calls t) (write-at t) write.Post
-write-returns-2 t c = label-puts (c .before .before .before .before .before .before .before .args .rows .now) (c .before .before .before .before .before .before .before .args .n) (c .before .before .before .before .before .before .before .pre .1 .1) (c .before .before .before .before .before .part-at .ensures) (c .before .before .before .before .match .keys2) (c .before .before .put-record2 .ensures)
+write-returns-2 t c =
+    let x1 = c .before .before in
+    let x2 = x1 .before .before in
+    let x3 = x2 .before in
+    label-puts (reading t x3) (x2 .match .keys2) (x1 .put-record2 .ensures)
 
--- src/write.rt:20:1
 write-same-length-3 : (t : ℕ) → write-lts.Need-same-length-3 (write-calls t) (write-at t) write.Post
 write-same-length-3 t c = search needs
 
--- src/write.rt:20:1
 write-returns-3 : (t : ℕ) → write-lts.Need-returns-3 (write-calls t) (write-at t) write.Post
-write-returns-3 t c = not-puts (c .before .before .before .before .before .before .before .before .before .before .before .before .args .rows .now) (c .before .before .before .before .before .before .before .before .before .before .before .before .args .n) (c .before .before .before .before .before .before .before .before .before .before .before .before .pre .1 .1) (c .before .before .before .before .before .before .before .before .before .before .part-at .ensures) (c .before .before .before .before .before .before .before .before .before .match .keys3) (c .before .before .before .before .before .before .before .write .ensures) (c .before .before .before .last .ensures) (c .before .before .put-record3 .ensures)
+write-returns-3 t c =
+    let x1 = c .before .before in
+    let x2 = x1 .before in
+    let x3 = x2 .before .before .before .before in
+    let x4 = x3 .before .before in
+    let x5 = x4 .before in
+    not-puts (reading t x5) (x4 .match .keys3) (x3 .write .ensures) (x2 .last .ensures) (x1 .put-record3 .ensures)
 
--- src/write.rt:20:1
 write-same-length-4 : (t : ℕ) → write-lts.Need-same-length-4 (write-calls t) (write-at t) write.Post
 write-same-length-4 t c = search needs
 
--- src/write.rt:20:1
 write-returns-4 : (t : ℕ) → write-lts.Need-returns-4 (write-calls t) (write-at t) write.Post
-write-returns-4 t c = or-puts (c .before .before .before .before .before .before .before .before .before .before .before .before .before .before .before .before .before .args .rows .now) (c .before .before .before .before .before .before .before .before .before .before .before .before .before .before .before .before .before .args .n) (c .before .before .before .before .before .before .before .before .before .before .before .before .before .before .before .before .before .pre .1 .1) (c .before .before .before .before .before .before .before .before .before .before .before .before .before .before .before .part-at .ensures) (c .before .before .before .before .before .before .before .before .before .before .before .before .before .before .match .keys4) (c .before .before .before .before .before .before .before .before .before .before .before .before .write2 .ensures) (c .before .before .before .before .before .before .before .before .write3 .ensures) (c .before .before .before .before .last2 .ensures) (c .before .before .before .last3 .ensures) (c .before .before .put-record4 .ensures)
+write-returns-4 t c =
+    let x1 = c .before .before in
+    let x2 = x1 .before in
+    let x3 = x2 .before in
+    let x4 = x3 .before .before .before .before in
+    let x5 = x4 .before .before .before .before in
+    let x6 = x5 .before .before in
+    let x7 = x6 .before in
+    let x = reading t x7 in
+    or-puts x (x6 .match .keys4) (x5 .write2 .ensures) (x4 .write3 .ensures) (x3 .last2 .ensures) (x2 .last3 .ensures) (x1 .put-record4 .ensures)
 
--- src/write.rt:20:1
 write-same-length-5 : (t : ℕ) → write-lts.Need-same-length-5 (write-calls t) (write-at t) write.Post
 write-same-length-5 t c = search needs
 
--- src/write.rt:20:1
 write-returns-5 : (t : ℕ) → write-lts.Need-returns-5 (write-calls t) (write-at t) write.Post
-write-returns-5 t c = plain-puts (c .before .before .before .before .before .before .before .before .before .before .before .before .before .args .rows .now) (c .before .before .before .before .before .before .before .before .before .before .before .before .before .args .n) (c .before .before .before .before .before .before .before .before .before .before .before .before .before .pre .1 .1) (c .before .before .before .before .before .before .before .before .before .before .before .part-at .ensures) (c .before .before .before .before .before .before .before .before .before .if1 .left) (c .before .before .before .before .before .before .before .before .if2 .taken) (c .before .before .before .before .before .before .write-rest .ensures) (c .before .before .put-plain .ensures)
+write-returns-5 t c =
+    let x1 = c .before .before in
+    let x2 = x1 .before .before .before .before in
+    let x3 = x2 .before .before in
+    let x4 = x3 .before in
+    let x5 = x4 .before in
+    let x6 = x5 .before in
+    let h = of-step t x5 in
+    plain-puts (reading t x6) h (x4 .if1 .left) (x3 .if2 .taken) (x2 .write-rest .ensures) (x1 .put-plain .ensures)
 
--- src/write.rt:20:1
 write-same-length-6 : (t : ℕ) → write-lts.Need-same-length-6 (write-calls t) (write-at t) write.Post
 write-same-length-6 t c = search needs
 
--- src/write.rt:20:1
 write-returns-6 : (t : ℕ) → write-lts.Need-returns-6 (write-calls t) (write-at t) write.Post
-write-returns-6 t c = tested-puts (c .before .before .before .before .before .before .before .before .before .before .before .before .before .before .before .before .before .args .rows .now) (c .before .before .before .before .before .before .before .before .before .before .before .before .before .before .before .before .before .args .n) (c .before .before .before .before .before .before .before .before .before .before .before .before .before .before .before .before .before .pre .1 .1) (c .before .before .before .before .before .before .before .before .before .before .before .before .before .before .before .part-at .ensures) (c .before .before .before .before .before .before .before .before .before .before .before .before .before .before .match .rest .0 .0 .0 .1, c .before .before .before .before .before .before .before .before .before .before .before .before .before .before .match .rest .0 .0 .1, c .before .before .before .before .before .before .before .before .before .before .before .before .before .before .match .rest .0 .1, c .before .before .before .before .before .before .before .before .before .before .before .before .before .before .match .rest .1) (λ l. ⊎-elim (λ x. omega (arith, l, x .taken)) (λ x. x .1 .left) (c .before .before .before .before .before .before .before .before .before .before .before .before .before .if1 .came)) (c .before .before .before .before .before .before .before .before .before .before .before .write-rest2 .ensures) (c .before .before .before .before .before .before .before .write4 .ensures) (c .before .before .before .last4 .ensures) (c .before .before .put-tested .ensures)
+write-returns-6 t c =
+    let x1 = c .before .before in
+    let x2 = x1 .before in
+    let x3 = x2 .before .before .before .before in
+    let x4 = x3 .before .before .before .before in
+    let x5 = x4 .before .before in
+    let x6 = x5 .before in
+    let x7 = x6 .before in
+    let x = reading t x7 in
+    tested-puts x (of-step t x6) (with-test t x5) (x4 .write-rest2 .ensures) (x3 .write4 .ensures) (x2 .last4 .ensures) (x1 .put-tested .ensures)
 
--- src/write.rt:56:9
 write-rest-put-record-requires : (t : ℕ) → write-rest-lts.Need-put-record-requires (write-rest-calls t) (write-rest-at t) write-rest.Post
-write-rest-put-record-requires t c κs = end-asks (c .before .before .before .args .rows .now) (c .before .before .before .args .n) (c .before .if1 .taken) (c .before .before .before .pre .1 .2)
+write-rest-put-record-requires t c κs =
+    let s = c .before .before .before in
+    asks-as (rest-none (s .args .rows .now) (s .args .n) (c .before .if1 .taken)) (s .pre .1 .2)
 
--- src/write.rt:56:9
 write-rest-same-length : (t : ℕ) → write-rest-lts.Need-same-length (write-rest-calls t) (write-rest-at t) write-rest.Post
 write-rest-same-length t c = search needs
 
--- src/write.rt:56:9
 write-rest-returns : (t : ℕ) → write-rest-lts.Need-returns (write-rest-calls t) (write-rest-at t) write-rest.Post
-write-rest-returns t c = end-puts (c .before .before .before .before .before .before .args .rows .now) (c .before .before .before .before .before .before .args .n) (c .before .before .before .before .if1 .taken) (c .before .before .put-record .ensures)
+write-rest-returns t c =
+    let x1 = c .before .before in
+    let x2 = x1 .before .before in
+    let s = x2 .before .before in
+    puts-as (rest-none (s .args .rows .now) (s .args .n) (x2 .if1 .taken)) (x1 .put-record .ensures)
 
--- src/write.rt:58:5
 write-rest-write-requires : (t : ℕ) → write-rest-lts.Need-write-requires (write-rest-calls t) (write-rest-at t) write-rest.Post
-write-rest-write-requires t c κs = (omega (arith, c .before .before .before .pre .0), (c .before .before .before .pre .1 .0, c .before .before .before .pre .1 .1 (c .before .if1 .left), more-asks (c .before .before .before .args .rows .now) (c .before .before .before .args .n) (c .before .if1 .left) (c .before .before .before .pre .1 .2)))
+write-rest-write-requires t c κs =
+    let s = c .before .before .before in
+    let a = asks-as (rest-some (s .args .rows .now) (s .args .n) (c .before .if1 .left)) (s .pre .1 .2) in
+    (omega (arith, s .pre .0), (s .pre .1 .0, s .pre .1 .1 (c .before .if1 .left), a))
 
--- src/write.rt:51:1
 write-rest-same-length-2 : (t : ℕ) → write-rest-lts.Need-same-length-2 (write-rest-calls t) (write-rest-at t) write-rest.Post
 write-rest-same-length-2 t c = search needs
 
--- src/write.rt:51:1
 write-rest-returns-2 : (t : ℕ) → write-rest-lts.Need-returns-2 (write-rest-calls t) (write-rest-at t) write-rest.Post
-write-rest-returns-2 t c = more-puts (c .before .before .before .before .before .before .args .rows .now) (c .before .before .before .before .before .before .args .n) (c .before .before .before .before .if1 .left) (c .before .before .write .ensures)
+write-rest-returns-2 t c =
+    let x1 = c .before .before in
+    let x2 = x1 .before .before in
+    let s = x2 .before .before in
+    puts-as (rest-some (s .args .rows .now) (s .args .n) (x2 .if1 .left)) (x1 .write .ensures)
 
 pub +write+write-rest-spec : {M : Type 1} → statement M
 +write+write-rest-spec = close μ-write μ-write-rest (λ t. write-lts.spec (write-calls t)
@@ -220,8 +339,7 @@ pub +write+write-rest-spec : {M : Type 1} → statement M
     (write-returns-5 t)
     (write-same-length-6 t)
     (write-returns-6 t))
-    λ t. write-rest-lts.spec
-    (put-record-reads.Asked, put-record-reads.Learnt, write-below t, write.Post)
+    λ t. write-rest-lts.spec (write-rest-calls t)
     (write-rest-at t)
     write-rest.Post
     (write-rest-put-record-requires t)

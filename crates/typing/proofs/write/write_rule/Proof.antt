@@ -1,27 +1,26 @@
-use native.Mathlib.Omega.{arith}
+-- `write_rule` starts the writer with nothing written. Assumes nothing.
 use Rattle.typing.proofs.Whole.{whole-asks, whole-puts}
 use borrow.Author.Needs.{needs}
 use Rattle.typing.proofs.write.write_rule.Statement.{statement}
 use Rattle.typing.proofs.write.write_rule.Tie as tie
-use Rattle.typing.proofs.write.write_rule.Reads as reads
-use Rattle.typing.proofs.write.write_rule.Lts as lts
-use Rattle.typing.proofs.write.write.Reads as write-reads
 
--- src/write.rt:69:9
 cast-write : tie.Need-cast-write
-cast-write c = omega (arith, c .before .pre .0)
+cast-write c = search needs
 
--- src/write.rt:67:5
 write-requires : tie.Need-write-requires
-write-requires c κs = let p = c .before .before .pre in (p .0, (p .1 .0, p .1 .1), whole-asks (c .before .before .args .rows .now) (c .before .before .args .rule .now) (c .before .before .args .n) (p .1 .0) (p .1 .1) (p .1 .2) (p .1 .3))
+write-requires c κs =
+    let s = c .before .before in
+    let p = s .pre in
+    (p .0, (p .1 .0, p .1 .1), whole-asks (s .args .rows .now) (s .args .rule .now) (s .args .n) (p .1 .0) (p .1 .1) (p .1 .2) (p .1 .3))
 
--- src/write.rt:63:1
 same-length : tie.Need-same-length
 same-length c = search needs
 
--- src/write.rt:63:1
 returns : tie.Need-returns
-returns c = λ t x. whole-puts (c .before .before .before .before .before .args .rows .now) (c .before .before .before .before .before .args .rule .now) (c .before .before .before .before .before .args .n) t x (c .before .before .write .ensures)
+returns c =
+    let x1 = c .before .before in
+    let s = x1 .before .before .before in
+    λ t x. whole-puts (s .args .rows .now) (s .args .rule .now) (s .args .n) t x (x1 .write .ensures)
 
 pub write-rule-spec : {M : Type 1} → statement M
 write-rule-spec = tie.close (tie.spec cast-write write-requires same-length returns)
