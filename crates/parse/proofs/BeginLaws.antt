@@ -31,10 +31,9 @@ use Rattle.parse.specs.declared.begins.Begin.{Begin}
 use Rattle.parse.specs.declared.begins.Begin.the-variants as B
 use Rattle.parse.specs.declared.begins.Start.{Start}
 use Rattle.parse.specs.declared.begins.Start.the-variants as S
-use Rattle.parse.specs.Promises.{headOf, digitFrom, WordAt, OrAt, NumberAt, Fits, Lettered, LettersAt, BeginsAt, NamedAt, AxisAt, While, StartAt, plainHead}
-use Rattle.parse.specs.Rows.{formOf, formEntries, leafTree, testEntries, testBytes, noteT}
+use Rattle.parse.specs.Promises.{headOf, digitFrom, WordAt, OrAt, NumberAt, Fits, Lettered, LettersAt, BeginsAt, NamedAt, AxisAt, While, StartAt, noteTest}
+use Rattle.parse.specs.Rows.{formOf, leafTree, testEntries, testBytes}
 use Rattle.parse.proofs.WordLaws.{front}
-use Rattle.parse.proofs.PartLaws.{entries-few}
 
 -- `or`
 or-words : (w : Bool) (K : List Expected) (s : List ℕ) → run w (alternative ∷ K) s ≡ run w (spelt (gap w ++ orWord) K) s
@@ -241,23 +240,32 @@ module _ (s : List ℕ) (at : ℕ) (h1 : headOf (drop at s) ≡ 63 → ⊥) (h2 
   goes-along a e q K = path-axis (drop at s) K h1 h2 ∙ rw q (run-axis (afterAxis ∷ K) a (drop e s))
 
   pub plain-star : (e k : ℕ) → AxisAt s at (N.Axis e k) → headOf (drop e s) ≡ 42 → StartAt s at (S.Plain (e + 1) false (k + 4))
-  unfolding ahead piecesT wordyT GoodT signByte formOf testEntries testBytes noteT
-  plain-star e k (l, m, (a, i, q)) h j rows =
-      let (n, r) = front s e 42 h (omega arith) in
-      rw i (
-        record { on = omega arith; within = omega arith; entries-fit = omega (arith, entries-few (neighbourKind a + 4)); bytes-fit = omega arith },
+  unfolding ahead piecesT wordyT GoodT signByte formOf testEntries testBytes noteTest
+  plain-star e k (l, m, (a, i, q)) h =
+      let (n, r) = front s e 42 h (omega arith) in (
+        omega arith,
+        omega arith,
         λ K. goes-along a e q K ∙ rw r (after-star (drop (e + 1) s) K),
-        record { tree = along* a; labels = tt; ends = refl; reads = q ∙ rw r; is-form = until-form a; counts = refl; weighs = refl; noted = refl },
+        record {
+          tree = along* a;
+          labels = tt;
+          ends = refl;
+          reads = q ∙ rw r;
+          is-form = rw i (until-form a);
+          no-entries = refl;
+          no-bytes = refl;
+          no-rows = λ k rows. refl;
+        },
       )
 
   pub plain-there : (e k : ℕ) → AxisAt s at (N.Axis e k) → (headOf (drop e s) ≡ 42 → ⊥) → StartAt s at (S.Plain e true k)
-  unfolding ahead piecesT wordyT GoodT signByte formOf testEntries testBytes noteT
-  plain-there e k (l, m, (a, i, q)) h j rows =
-      rw i (
-        record { on = omega arith; within = m; entries-fit = omega (arith, entries-few (neighbourKind a)); bytes-fit = omega arith },
-        λ K. goes-along a e q K ∙ after-axis (drop e s) K h,
-        record { tree = along a; labels = tt; ends = refl; reads = q; is-form = refl; counts = refl; weighs = refl; noted = refl },
-      )
+  unfolding ahead piecesT wordyT GoodT signByte formOf testEntries testBytes noteTest
+  plain-there e k (l, m, (a, i, q)) h = (
+    l,
+    m,
+    λ K. goes-along a e q K ∙ after-axis (drop e s) K h,
+    record { tree = along a; labels = tt; ends = refl; reads = q; is-form = i; no-entries = refl; no-bytes = refl; no-rows = λ k rows. refl },
+  )
 
 -- (AXIS?
 question-goes : (l : List ℕ) (K : List Expected) → run true (byte 63 ∷ K) (63 ∷ l) ≡ run false K l

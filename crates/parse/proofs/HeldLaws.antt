@@ -11,7 +11,7 @@ use lib.Seq.{sets, length-sets, getD-set-same, getD-set-other}
 use Rattle.paths.specs.Syntax.{Test, everywhere, labelled, except, either, begins, Path, only, _then_, Step, along, along*, passing, while}
 use Rattle.paths.specs.Translation.{tableOf}
 use Rattle.paths.proofs.Count.{weightT, table-count}
-use Rattle.parse.specs.Rows.{noRows, noteRow, formOf, ownEntries, formEntries, testEntries, entriesT, entriesP, noteT, noteP, noteS, Row, HeldT, HeldP, HeldS}
+use Rattle.parse.specs.Rows.{noRows, noteRow, formOf, formEntries, testEntries, entriesT, entriesP, entriesS, noteT, noteP, noteS, Row, HeldT, HeldP, HeldS}
 use Rattle.parse.proofs.TreeLaws.{step-own}
 use Rattle.parse.proofs.PartLaws.{entries-few}
 
@@ -42,11 +42,11 @@ module _ (rows after : List ℕ) where
     kept (labelled l) n h r = row-kept n _ _ _ h r
     kept (except t) n h (a, l, r, x) = (a, l, row-kept n _ _ _ h r, kept t a (below a n l h) x)
     kept (either t u) n h (a, b, l, m, r, x, y) = (a, b, l, m, row-kept n _ _ _ h r, kept t a (below a n l h) x, kept u b (below b n m h) y)
-    kept (begins p) n h x = kept-path p n h x
+    kept (begins p) n h x = kept-path p n 0 h x
 
-    kept-path : (p : Path) (n : ℕ) → Same n → HeldP rows p n → HeldP after p n
-    kept-path (only st) n h x = kept-step st n 0 h x
-    kept-path (_then_ st p) n h (b, l, x, y) = (b, l, kept-step st n b h x, kept-path p b (below b n l h) y)
+    kept-path : (p : Path) (n b : ℕ) → Same n → HeldP rows p n b → HeldP after p n b
+    kept-path (only st) n b h x = kept-step st n b h x
+    kept-path (_then_ st p) n b h (m, l, x, y) = (m, l, kept-step st m b (below m n l h) x, kept-path p n m h y)
 
     kept-step : (st : Step) (n b : ℕ) → Same n → HeldS rows st n b → HeldS after st n b
     kept-step (along x) n b h (a, r) = (a, row-kept n _ _ _ h r)
@@ -102,14 +102,17 @@ joint n rows mid after f g i l = g i l ∙ f i l
 row-joint : (k : ℕ) (rows mid : List ℕ) (n form a b : ℕ) → Same rows mid k → k < n → Same rows (noteRow mid n form a b) k
 row-joint k rows mid n form a b f l = joint k rows mid (noteRow mid n form a b) f (row-below mid n form a b k l)
 
--- A step's row is behind what it comes after.
-own-above : (st : Step) (k m : ℕ) → k ≤ m → k < m + ownEntries st
-own-above st k m l = omega (arith, step-own st .own, entries-few (formOf st))
+-- A step's row is behind what it comes after, and behind its test's.
+own-above : (st : Step) (k : ℕ) → k + testEntries st < k + entriesS st
+own-above st k = omega (arith, step-own st .entries, entries-few (formOf st))
+
+step-above : (st : Step) (k : ℕ) → k < k + entriesS st
+step-above st k = omega (arith, own-above st k)
 
 -- ---- a tree noted
 
 mutual
-  unfolding noteT
+  unfolding noteT formOf testEntries
 
   -- The rows before a noted tree stay, and the table keeps its length.
   test-before : (t : Test) (k : ℕ) (rows : List ℕ) → Same rows (noteT t k rows) k
@@ -124,26 +127,20 @@ mutual
       let n = m + entriesT u in
       let next = noteT u m mid in
       row-joint k rows next (n + 1) 4 m n (joint k rows mid next (test-before t k rows) (fewer mid next k m (omega arith) (test-before u m mid))) (omega arith)
-  test-before (begins p) k rows = fewer rows (noteP p (k + 1) rows) k (k + 1) (omega arith) (path-before p (k + 1) rows)
+  test-before (begins p) k rows = fewer rows (noteP p (k + 1) 0 rows) k (k + 1) (omega arith) (path-before p (k + 1) 0 rows)
 
-  path-before : (p : Path) (k : ℕ) (rows : List ℕ) → Same rows (noteP p k rows) k
-  path-before (only st) k rows =
-      let mid = noteS st k rows in
-      let m = k + testEntries st in
-      row-joint k rows mid (m + ownEntries st) (formOf st) m 0 (step-before st k rows) (own-above st k m (omega arith))
-  path-before (_then_ st p) k rows =
-      let mid = noteS st k rows in
-      let m = k + testEntries st in
-      let n = m + entriesP p in
-      let next = noteP p m mid in
-      row-joint k rows next (n + ownEntries st) (formOf st) m n
-      (joint k rows mid next (step-before st k rows) (fewer mid next k m (omega arith) (path-before p m mid))) (own-above st k n (omega arith))
+  path-before : (p : Path) (k b : ℕ) (rows : List ℕ) → Same rows (noteP p k b rows) k
+  path-before (only st) k b rows = step-before st k b rows
+  path-before (_then_ st p) k b rows =
+      let mid = noteS st k b rows in
+      let n = k + entriesS st in joint k rows mid (noteP p n n mid) (step-before st k b rows) (fewer mid (noteP p n n mid) k n (omega arith) (path-before p n n mid))
 
-  step-before : (st : Step) (k : ℕ) (rows : List ℕ) → Same rows (noteS st k rows) k
-  step-before (along x) k rows = λ i h. refl
-  step-before (along* x) k rows = λ i h. refl
-  step-before (passing t) k rows = test-before t k rows
-  step-before (while x t) k rows = test-before t k rows
+  step-before : (st : Step) (k b : ℕ) (rows : List ℕ) → Same rows (noteS st k b rows) k
+  step-before (along x) k b rows = row-below rows (k + entriesS (along x)) (formOf (along x)) (k + 0) b k (step-above (along x) k)
+  step-before (along* x) k b rows = row-below rows (k + entriesS (along* x)) (formOf (along* x)) (k + 0) b k (step-above (along* x) k)
+  step-before (passing t) k b rows = row-joint k rows (noteT t k rows) (k + entriesS (passing t)) 5 (k + entriesT t) b (test-before t k rows) (step-above (passing t) k)
+  step-before (while x t) k b rows =
+      row-joint k rows (noteT t k rows) (k + entriesS (while x t)) (formOf (while x t)) (k + entriesT t) b (test-before t k rows) (step-above (while x t) k)
 
 mutual
   unfolding noteT
@@ -154,18 +151,29 @@ mutual
   test-length (except t) k rows = row-length (noteT t k rows) _ _ _ _ ∙ test-length t k rows
   test-length (either t u) k rows =
       row-length (noteT u (k + entriesT t) (noteT t k rows)) _ _ _ _ ∙ test-length u (k + entriesT t) (noteT t k rows) ∙ test-length t k rows
-  test-length (begins p) k rows = path-length p (k + 1) rows
+  test-length (begins p) k rows = path-length p (k + 1) 0 rows
 
-  path-length : (p : Path) (k : ℕ) (rows : List ℕ) → length (noteP p k rows) ≡ length rows
-  path-length (only st) k rows = row-length (noteS st k rows) _ _ _ _ ∙ step-length st k rows
-  path-length (_then_ st p) k rows =
-      row-length (noteP p (k + testEntries st) (noteS st k rows)) _ _ _ _ ∙ path-length p (k + testEntries st) (noteS st k rows) ∙ step-length st k rows
+  path-length : (p : Path) (k b : ℕ) (rows : List ℕ) → length (noteP p k b rows) ≡ length rows
+  path-length (only st) k b rows = step-length st k b rows
+  path-length (_then_ st p) k b rows = path-length p (k + entriesS st) (k + entriesS st) (noteS st k b rows) ∙ step-length st k b rows
 
-  step-length : (st : Step) (k : ℕ) (rows : List ℕ) → length (noteS st k rows) ≡ length rows
-  step-length (along x) k rows = refl
-  step-length (along* x) k rows = refl
-  step-length (passing t) k rows = test-length t k rows
-  step-length (while x t) k rows = test-length t k rows
+  step-length : (st : Step) (k b : ℕ) (rows : List ℕ) → length (noteS st k b rows) ≡ length rows
+  step-length (along x) k b rows = row-length rows _ _ _ _
+  step-length (along* x) k b rows = row-length rows _ _ _ _
+  step-length (passing t) k b rows = row-length (noteT t k rows) _ _ _ _ ∙ test-length t k rows
+  step-length (while x t) k b rows = row-length (noteT t k rows) _ _ _ _ ∙ test-length t k rows
+
+-- A path has an entry.
+path-some : (p : Path) → 1 ≤ entriesP p
+unfolding weightT
+path-some (only st) = omega (arith, step-above st 0)
+path-some (_then_ st p) = omega (arith, path-some p)
+
+-- A step's row filled behind its test, which stays held.
+tested : (st : Step) (t : Test) (n a b : ℕ) (mid : List ℕ) → a < n → n ≤ 64 → length mid ≡ 192 → HeldT mid t a
+    → (let after = noteRow mid n (formOf st) a b in (c : ℕ) × (c < n) × Row after n (formOf st) c b × HeldT after t c)
+tested st t n a b mid l m e x =
+    (a, l, row-there mid n (formOf st) a b (omega arith) m e, kept mid _ t a (row-below mid n (formOf st) a b a l) x)
 
 mutual
   unfolding noteT HeldT weightT testEntries
@@ -200,46 +208,32 @@ mutual
         kept mid _ t a (row-joint a mid next (b + 1) 4 a b (test-before u a mid) (omega arith)) (held t k a rows refl (omega arith) e),
         kept next _ u b (row-below next (b + 1) 4 a b b (omega arith)) (held u a b mid refl (omega arith) long),
       )
-  held (begins p) k n rows q m e = held-path p (k + 1) n rows (omega arith) m e
+  held (begins p) k n rows q m e = held-path p (k + 1) n 0 rows (omega arith) m e
 
-  held-path : (p : Path) (k n : ℕ) (rows : List ℕ) → n ≡ k + entriesP p → n ≤ 64 → length rows ≡ 192 → HeldP (noteP p k rows) p n
-  held-path (only st) k n rows q m e =
-      let mid = noteS st k rows in
-      let a = k + testEntries st in
-      let o = step-own st in
-      let r = a + ownEntries st in
-      let l : a < r = own-above st a a (omega arith) in
-      let z : n ≡ r = omega (arith, o .own, o .entries) in
-      rw z
-      (held-step st k r 0 rows _ (row-there mid r (formOf st) a 0 (omega arith) (omega arith) (step-length st k rows ∙ e))
-      (row-below mid r (formOf st) a 0 a l) l (omega arith) e)
-  held-path (_then_ st p) k n rows q m e =
-      let mid = noteS st k rows in
-      let a = k + testEntries st in
-      let next = noteP p a mid in
-      let b = a + entriesP p in
-      let o = step-own st in
-      let r = b + ownEntries st in
-      let l : b < r = own-above st b b (omega arith) in
-      let z : n ≡ r = omega (arith, o .own, o .entries) in
-      let long : length mid ≡ 192 = step-length st k rows ∙ e in
-      rw z (
-        b,
-        l,
-        held-step st k r b rows _ (row-there next r (formOf st) a b (omega arith) (omega arith) (path-length p a mid ∙ long))
-            (row-joint a mid next r (formOf st) a b (path-before p a mid) (omega arith)) (omega arith) (omega arith) e,
-        kept-path next _ p b (row-below next r (formOf st) a b b l) (held-path p a b mid refl (omega arith) long),
+  held-path : (p : Path) (k n b : ℕ) (rows : List ℕ) → n ≡ k + entriesP p → n ≤ 64 → length rows ≡ 192 → HeldP (noteP p k b rows) p n b
+  held-path (only st) k n b rows q m e = rw q (held-step st k b rows (omega arith) e)
+  held-path (_then_ st p) k n b rows q m e =
+      let mid = noteS st k b rows in
+      let a = k + entriesS st in
+      let few = path-some p in (
+        a,
+        omega arith,
+        kept-step mid (noteP p a a mid) st a b (path-before p a a mid) (held-step st k b rows (omega arith) e),
+        held-path p a n a mid (omega arith) m (step-length st k b rows ∙ e),
       )
 
-  -- A step is held where its row is filled and its test's rows have stayed.
-  held-step : (st : Step) (k r b : ℕ) (rows after : List ℕ) → Row after r (formOf st) (k + testEntries st) b → Same (noteS st k rows) after (k + testEntries st)
-      → k + testEntries st < r → r ≤ 64 → length rows ≡ 192 → HeldS after st r b
-  held-step (along x) k r b rows after f g l m e = (k + 0, f)
-  held-step (along* x) k r b rows after f g l m e = (k + 0, f)
-  held-step (passing t) k r b rows after f g l m e =
-      (k + entriesT t, l, f, kept (noteT t k rows) after t (k + entriesT t) g (held t k (k + entriesT t) rows refl (omega arith) e))
-  held-step (while x t) k r b rows after f g l m e =
-      (k + entriesT t, l, f, kept (noteT t k rows) after t (k + entriesT t) g (held t k (k + entriesT t) rows refl (omega arith) e))
+  -- A noted step is held in the row of its last entry.
+  held-step : (st : Step) (k b : ℕ) (rows : List ℕ) → k + entriesS st ≤ 64 → length rows ≡ 192 → HeldS (noteS st k b rows) st (k + entriesS st) b
+  held-step (along x) k b rows m e =
+      (k + 0, row-there rows (k + entriesS (along x)) (formOf (along x)) (k + 0) b (omega (arith, step-above (along x) k)) m e)
+  held-step (along* x) k b rows m e =
+      (k + 0, row-there rows (k + entriesS (along* x)) (formOf (along* x)) (k + 0) b (omega (arith, step-above (along* x) k)) m e)
+  held-step (passing t) k b rows m e =
+      let l = own-above (passing t) k in
+      tested (passing t) t _ (k + entriesT t) b (noteT t k rows) l m (test-length t k rows ∙ e) (held t k (k + entriesT t) rows refl (omega arith) e)
+  held-step (while x t) k b rows m e =
+      let l = own-above (while x t) k in
+      tested (while x t) t _ (k + entriesT t) b (noteT t k rows) l m (test-length t k rows ∙ e) (held t k (k + entriesT t) rows refl (omega arith) e)
 
 -- The rows of a text with 64 entries or fewer hold its tree in the row of its last entry.
 pub text-held : (t : Test) (n : ℕ) (rows : List ℕ) → n ≡ length (tableOf t) → n ≤ 64 → rows ≡ noteT t 0 noRows → HeldT rows t n

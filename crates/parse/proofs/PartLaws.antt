@@ -13,10 +13,8 @@ use Rattle.parse.specs.declared.words.Word.{Word}
 use Rattle.parse.specs.declared.words.Word.the-variants.{At, Missing}
 use Rattle.parse.specs.declared.tree.Parsed.{Parsed}
 use Rattle.parse.specs.declared.tree.Parsed.the-variants.{Done, Bad}
-use Rattle.parse.specs.declared.tree.Head.{Head}
-use Rattle.parse.specs.declared.tree.Stepped.the-variants as T
 use Rattle.parse.specs.Rows.{noteRow, formEntries, formBytes, leafTree, noteT}
-use Rattle.parse.specs.Promises.{WordAt, leafBytes, Small, Shut, Closing, Excepted, Joined, LastStep, SteppedBy}
+use Rattle.parse.specs.Promises.{WordAt, leafBytes, Small, Shut, Closing, Excepted, EitherOf, StepOf}
 
 -- ---- forms and rows
 
@@ -112,8 +110,8 @@ module _ (p : Parsed) (q : ℕ) (bad : p ≡ Bad q) where
   pub except-bad : (k : ℕ) (rows after : List ℕ) → Excepted p k rows (Bad q) after
   except-bad k rows after = rw bad
 
-  pub joined-bad : (k : ℕ) (h : Head) (rows after : List ℕ) → Joined p k h rows (Bad q) after
-  joined-bad k h rows after = rw bad
+  pub either-bad : (k n b : ℕ) (rows after : List ℕ) → EitherOf p k n b rows (Bad q) after
+  either-bad k n b rows after = rw bad
 
   pub closing-bad : Closing p (Bad q)
   closing-bad = rw bad
@@ -121,17 +119,20 @@ module _ (p : Parsed) (q : ℕ) (bad : p ≡ Bad q) where
   pub shut-bad : (x s : List ℕ) → Shut x s p (Bad q)
   shut-bad x s = rw bad
 
-  pub step-bad : (form : ℕ) → SteppedBy p form (T.Stray q)
-  step-bad form = rw bad
+  pub step-bad : (k form before : ℕ) (rows after : List ℕ) → StepOf p k form before rows (Bad q) after
+  step-bad k form before rows after = rw bad
 
 module _ (p : Parsed) (e : ℕ) (v : Bool) (n b : ℕ) (done : p ≡ Done e v n b) where
   pub except-done : (k : ℕ) (rows after : List ℕ) → after ≡ noteRow rows (k + n + 1) 3 (k + n) 0
       → Excepted p k rows (Done e v (n + 1) (b + 6)) after
   except-done k rows after h = rw done (refl, h)
 
-  pub joined-done : (k : ℕ) (h : Head) (own bytes : ℕ) (rows after : List ℕ) → own ≡ formEntries (h .form) → bytes ≡ formBytes (h .form)
-      → after ≡ noteRow rows (k + n + own) (h .form) k (k + n) → Joined p k h rows (Done e v (n + h .entries + own) (b + h .bytes + bytes)) after
-  joined-done k h own bytes rows after i j f = rw (done, ← i, ← j) (refl, f)
+  pub either-done : (k m c : ℕ) (rows after : List ℕ) → after ≡ noteRow rows (k + n + 1) 4 k (k + n) → EitherOf p k m c rows (Done e v (n + m + 1) (b + c + 8)) after
+  either-done k m c rows after h = rw done (refl, h)
+
+  pub step-done : (k form before own bytes : ℕ) (rows after : List ℕ) → own ≡ formEntries form → bytes ≡ formBytes form
+      → after ≡ noteRow rows (k + n + own) form (k + n) before → StepOf p k form before rows (Done e v (n + own) (b + bytes)) after
+  step-done k form before own bytes rows after i j h = rw (done, ← i, ← j) (refl, h)
 
   pub closing-done : Closing p (Done e v (n + 1) (b + 4))
   closing-done = rw done
@@ -141,10 +142,3 @@ module _ (p : Parsed) (e : ℕ) (v : Bool) (n b : ℕ) (done : p ≡ Done e v n 
 
   pub shut-there : (x s : List ℕ) (f : ℕ) (w : Word) → w ≡ At f → WordAt x s e w → Shut x s p (Done f false n b)
   shut-there x s f w j h = rw done (At f, rw j at h, refl)
-
-  pub step-done : (form : ℕ) → SteppedBy p form (T.Step e v (record { form = form; entries = n; bytes = b }))
-  step-done form = rw done
-
-pub last-done : (e k own bytes : ℕ) (h : Head) (rows after : List ℕ) → own ≡ formEntries (h .form) → bytes ≡ formBytes (h .form)
-    → after ≡ noteRow rows (k + own) (h .form) k 0 → LastStep e k h rows (Done e false (h .entries + own) (h .bytes + bytes)) after
-last-done e k own bytes h rows after i j f = rw (← i, ← j) (refl, f)

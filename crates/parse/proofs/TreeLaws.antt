@@ -1,14 +1,14 @@
 -- Laws of the parsers that call each other: one for each return, over plain lists and numbers. Assumes nothing.
 use Prim.Native.Nat.{ℕ, zero, suc, _+_, _*_, _≤_, _<_}
 use native.Mathlib.Omega.{arith}
-use mathlib.Core.Path.{_≡_, refl, ap, _∙_}
+use mathlib.Core.Path.{_≡_, refl, sym, ap, _∙_}
 use mathlib.Core.Bool.{Bool, true, false}
 use mathlib.Core.List.{List, [], _∷_, _++_}
 use borrow.Author.Tests.{ne-eqb}
 use lib.ListN.{length, drop}
 use Rattle.text.specs.Text.{ascii}
 use Rattle.records.specs.Kinds.{rowOf}
-use Rattle.paths.specs.Syntax.{Axis, child, parent, right, left, Test, except, either, begins, Path, only, _then_, Step, along, along*, passing, while, GoodT}
+use Rattle.paths.specs.Syntax.{Axis, child, parent, right, left, Test, except, either, begins, Path, only, _then_, Step, along, along*, passing, while, GoodT, GoodS}
 use Rattle.paths.specs.Spelling.{word, sign, closing, greater, slash, star, axisWord, orWord, notWord, gap, piecesT, piecesP, piecesS, signByte}
 use Rattle.paths.specs.Translation.{neighbourKind, untilKind}
 use Rattle.paths.proofs.Machine.{Expected, byte, test, alternative, path, afterStep, run, next, choices, pick, ended, isWord, isDigit, stopped}
@@ -21,11 +21,8 @@ use Rattle.parse.specs.declared.begins.Begin.the-variants as B
 use Rattle.parse.specs.declared.begins.Start.the-variants as S
 use Rattle.parse.specs.declared.tree.Parsed.{Parsed}
 use Rattle.parse.specs.declared.tree.Parsed.the-variants.{Done, Bad}
-use Rattle.parse.specs.declared.tree.Head.{Head}
-use Rattle.parse.specs.declared.tree.Stepped.{Stepped}
-use Rattle.parse.specs.declared.tree.Stepped.the-variants as T
-use Rattle.parse.specs.Rows.{noteRow, formOf, ownEntries, formEntries, formBytes, leafTree, testEntries, testBytes, noteT, noteP, noteS, entriesT, entriesP}
-use Rattle.parse.specs.Promises.{headOf, OrAt, LeafAt, BeginsAt, StartAt, leafBytes, Small, Ends, Shut, Closing, Excepted, Joined, LastStep, SteppedBy, TestParsed, PathParsed, StepParsed}
+use Rattle.parse.specs.Rows.{noteRow, formOf, formEntries, formBytes, leafTree, testEntries, testBytes, stepRow, noteT, noteP, noteS, entriesT, entriesS}
+use Rattle.parse.specs.Promises.{headOf, OrAt, LeafAt, BeginsAt, StartAt, leafBytes, Small, Ends, Shut, Closing, Excepted, EitherOf, StepOf, noteTest, StepReads, TestParsed, PathParsed, StepParsed, Went}
 use Rattle.parse.proofs.WordLaws.{front}
 use Rattle.parse.proofs.PartLaws.{entries-few, bytes-few}
 
@@ -44,9 +41,14 @@ module _ (s : List ℕ) (at k : ℕ) (rows : List ℕ) where
   test-ends w (Done e v n b) after (f, g, t) = f .within
   test-ends w (Bad q) after h = tt
 
-  pub joined-ends : (w : Bool) (p r : Parsed) (mid after : List ℕ) (m : ℕ) (h : Head) → TestParsed w s at k rows p mid → Joined p m h mid r after → Ends s r
-  joined-ends w (Done e v n b) r mid after m h (f, g, t) (i, j) = rw i (f .within)
-  joined-ends w (Bad q) r mid after m h x i = rw i tt
+  pub either-ends : (w : Bool) (p r : Parsed) (mid after : List ℕ) (m n b : ℕ) → TestParsed w s at k rows p mid → EitherOf p m n b mid r after → Ends s r
+  either-ends w (Done e v j c) r mid after m n b (f, g, t) (i, h) = rw i (f .within)
+  either-ends w (Bad q) r mid after m n b x i = rw i tt
+
+  pub shut-small : (w : Bool) (x : List ℕ) (p r : Parsed) (after : List ℕ) → length s ≤ 1024 → TestParsed w s at k rows p after → Shut x s p r → Small r
+  shut-small w x (Done e v n b) r after l (f, g, t) (At q, h, i) = rw i (omega arith, omega arith)
+  shut-small w x (Done e v n b) r after l (f, g, t) (Missing q, h, i) = rw i tt
+  shut-small w x (Bad q) r after l h i = rw i tt
 
 -- ---- `true`, label N
 
@@ -128,12 +130,9 @@ either-text w t u v r e0 e1 e2 ev e3 e4 = rw (e0, e1, e2, ev, e3, e4) (or-text w
 
 -- Both sides noted, and the whole.
 either-noted : (t u : Test) (k n m : ℕ) (rows mid next after : List ℕ) → n ≡ entriesT t → m ≡ entriesT u → mid ≡ noteT t k rows → next ≡ noteT u (k + n) mid
-    → after ≡ noteRow next (k + n + m + formEntries 4) 4 (k + n) (k + n + m) → after ≡ noteT (either t u) k rows
-unfolding noteT formEntries
+    → after ≡ noteRow next (k + n + m + 1) 4 (k + n) (k + n + m) → after ≡ noteT (either t u) k rows
+unfolding noteT
 either-noted t u k n m rows mid next after i j a b c = c ∙ rw (b, a, i, j)
-
-abbrev pub orHead : (entries bytes : ℕ) → Head
-orHead n b = record { form = 4; entries = n; bytes = b }
 
 module _ (w : Bool) (s : List ℕ) (at k : ℕ) (rows : List ℕ) (h : headOf (drop at s) ≡ 40) where
   opened : (K : List Expected) → run w (test ∷ K) (drop at s) ≡ run false (test ∷ alternative ∷ test ∷ byte 41 ∷ K) (drop (at + 1) s)
@@ -154,7 +153,7 @@ module _ (w : Bool) (s : List ℕ) (at k : ℕ) (rows : List ℕ) (h : headOf (d
         or-read K = let q = o .2 in rw q (run-or K v (drop f s))
 
       either-done : (d j c : ℕ) (u : Bool) (next after : List ℕ) (m r : Parsed) → TestParsed true s f (k + n) mid (Done d u j c) next
-          → Joined (Done d u j c) (k + n) (orHead n b) next m after → Shut (41 ∷ []) s (Done d u (j + n + 1) (c + b + 8)) r → TestParsed w s at k rows r after
+          → EitherOf (Done d u j c) (k + n) n b next m after → Shut (41 ∷ []) s (Done d u (j + n + 1) (c + b + 8)) r → TestParsed w s at k rows r after
       unfolding wordyT weightT GoodT recordLength rowOf spelt
       either-done d j c u next after m r (l, g, t) y (Missing q, (a, z), i) = rw i (a, λ K. read-or K ∙ g _ ∙ z u K)
       either-done d j c u next after m r (l, g, t) y (At a, (k1, k2, k3), i) =
@@ -178,9 +177,8 @@ module _ (w : Bool) (s : List ℕ) (at k : ℕ) (rows : List ℕ) (h : headOf (d
             },
           )
 
-      pub either-law : (p m r : Parsed) (next after : List ℕ) → TestParsed true s f (k + n) mid p next → Joined p (k + n) (orHead n b) next m after
+      pub either-law : (p m r : Parsed) (next after : List ℕ) → TestParsed true s f (k + n) mid p next → EitherOf p (k + n) n b next m after
           → Shut (41 ∷ []) s m r → TestParsed w s at k rows r after
-      unfolding formEntries formBytes
       either-law (Bad q) m r next after (l, g) z y = let i : r ≡ Bad q = rw z at y in rw i (l, λ K. read-or K ∙ g _)
       either-law (Done d u j c) m r next after x z y = let i = z .0 in either-done d j c u next after m r x z (rw i at y)
 
@@ -191,105 +189,86 @@ unfolding headOf run next choices pick ended
 path-stray [] v K h1 h2 = refl
 path-stray (b ∷ l) v K h1 h2 = rw (ne-eqb b 47 h1, ne-eqb b 62 h2)
 
--- What a step counts: what its test does, and its own, which its form tells.
-pub record Own (st : Step) : Type 0 where
-  pub own : formEntries (formOf st) ≡ ownEntries st
-  pub entries : weightS (λ k. 1) st ≡ testEntries st + formEntries (formOf st)
-  pub bytes : weightS recordLength st ≡ testBytes st + formBytes (formOf st)
+module _ (s : List ℕ) (at k : ℕ) (rows : List ℕ) where
+  -- No step so far.
+  pub went-none : at ≤ length s → Went s at k rows at 0 0 0 rows
+  went-none l =
+      let z : k + 0 ≡ k = omega arith in
+      record {
+        on = omega arith;
+        within = l;
+        entries-fit = omega arith;
+        bytes-fit = omega arith;
+        goes = λ K. refl;
+        whole = λ p. p;
+        labels = λ p g. g;
+        reads = λ p r e. e;
+        counts = λ p. omega arith;
+        weighs = λ p. omega arith;
+        noted = λ p. rw z;
+      }
 
-pub step-own : (st : Step) → Own st
-unfolding formEntries formBytes formOf ownEntries testEntries testBytes weightT whileWeight neighbourKind untilKind recordLength rowOf
-step-own (along child) = record { own = refl; entries = refl; bytes = refl }
-step-own (along parent) = record { own = refl; entries = refl; bytes = refl }
-step-own (along right) = record { own = refl; entries = refl; bytes = refl }
-step-own (along left) = record { own = refl; entries = refl; bytes = refl }
-step-own (along* child) = record { own = refl; entries = refl; bytes = refl }
-step-own (along* parent) = record { own = refl; entries = refl; bytes = refl }
-step-own (along* right) = record { own = refl; entries = refl; bytes = refl }
-step-own (along* left) = record { own = refl; entries = refl; bytes = refl }
-step-own (passing t) = record { own = refl; entries = refl; bytes = refl }
-step-own (while child t) = record { own = refl; entries = refl; bytes = refl }
-step-own (while parent t) = record { own = refl; entries = refl; bytes = refl }
-step-own (while right t) = record { own = refl; entries = refl; bytes = refl }
-step-own (while left t) = record { own = refl; entries = refl; bytes = refl }
+  module _ (from entries bytes before : ℕ) (now : List ℕ) (x : Went s at k rows from entries bytes before now) where
+    pub path-stops : (p : ℕ) → StepParsed s from (k + entries) before now (Bad p) now → PathParsed s at k rows (Bad p) rows
+    path-stops p (l, g) = (l, λ K. x .goes K ∙ g K)
 
--- Counts of a rest and of what stands before it.
-added : (n a b x y : ℕ) → n ≡ x → a + b ≡ y → n + a + b ≡ x + y
-added n a b x y i j = omega arith
+    module _ (e n b : ℕ) (v : Bool) (after : List ℕ) (y : StepParsed s from (k + entries) before now (Done e v n b) after) where
+      pub path-bad : (headOf (drop e s) ≡ 47 → ⊥) → (headOf (drop e s) ≡ 62 → ⊥) → PathParsed s at k rows (Bad e) rows
+      path-bad h1 h2 = (y .0 .within, λ K. x .goes K ∙ y .1 K ∙ path-stray (drop e s) v K h1 h2)
 
-module _ (st : Step) (h : Head) (form : h .form ≡ formOf st) (entries : h .entries ≡ testEntries st) (k : ℕ) (rows mid : List ℕ) (noted : mid ≡ noteS st k rows) where
-  last-noted : (after : List ℕ) → after ≡ noteRow mid (k + h .entries + formEntries (h .form)) (h .form) (k + h .entries) 0 → after ≡ noteP (only st) k rows
-  unfolding noteT
-  last-noted after c = c ∙ rw (noted, form, entries, step-own st .own)
+      on-read : headOf (drop e s) ≡ 47 → (K : List Expected) → run v (afterStep ∷ K) (drop e s) ≡ run false (path ∷ K) (drop (e + 1) s)
+      on-read c K = let q = front s e 47 c (omega arith) .1 in rw q (path-on v K (drop (e + 1) s))
 
-  more-noted : (p : Path) (n : ℕ) (next after : List ℕ) → n ≡ entriesP p → next ≡ noteP p (k + h .entries) mid
-      → after ≡ noteRow next (k + h .entries + n + formEntries (h .form)) (h .form) (k + h .entries) (k + h .entries + n) → after ≡ noteP (_then_ st p) k rows
-  unfolding noteT
-  more-noted p n next after i d c = c ∙ rw (d, noted, form, entries, i, step-own st .own)
+      end-read : headOf (drop e s) ≡ 62 → (K : List Expected) → run v (afterStep ∷ K) (drop e s) ≡ run false K (drop (e + 1) s)
+      end-read c K = let q = front s e 62 c (omega arith) .1 in rw q (path-ends v K (drop (e + 1) s))
 
-module _ (s : List ℕ) (at k e : ℕ) (rows mid : List ℕ) (v : Bool) (h : Head) (x : StepParsed s at k rows (T.Step e v h) mid) where
-  pub path-bad : (headOf (drop e s) ≡ 47 → ⊥) → (headOf (drop e s) ≡ 62 → ⊥) → PathParsed s at k rows (Bad e) rows
-  path-bad h1 h2 = (x .0 .within, λ K. x .1 K ∙ path-stray (drop e s) v K h1 h2)
+      pub path-ended : headOf (drop e s) ≡ 62 → PathParsed s at k rows (Done (e + 1) false (entries + n) (bytes + b)) after
+      unfolding ahead piecesT weightT GoodT signByte noteT
+      path-ended c =
+          let (l, q) = front s e 62 c (omega arith) in
+          let t = y .2 in (
+            record {
+              on = omega (arith, x .on, y .0 .on);
+              within = omega arith;
+              entries-fit = omega (arith, x .entries-fit, y .0 .entries-fit);
+              bytes-fit = omega (arith, x .bytes-fit, y .0 .bytes-fit);
+            },
+            refl,
+            λ K. x .goes K ∙ y .1 K ∙ end-read c K,
+            record {
+              tree = x .whole (only (t .tree));
+              labels = x .labels (only (t .tree)) (t .labels);
+              reads = x .reads (only (t .tree)) (drop (e + 1) s) (t .reads ∙ rw (q, ahead-step (t .tree) false (sign greater ∷ []) (drop (e + 1) s)));
+              counts = omega (arith, x .counts (only (t .tree)), t .counts);
+              weighs = omega (arith, x .weighs (only (t .tree)), t .weighs);
+              noted = t .noted ∙ sym (x .noted (only (t .tree)));
+            },
+          )
 
-  on-read : headOf (drop e s) ≡ 47 → (K : List Expected) → run v (afterStep ∷ K) (drop e s) ≡ run false (path ∷ K) (drop (e + 1) s)
-  on-read c K = let q = front s e 47 c (omega arith) .1 in rw q (path-on v K (drop (e + 1) s))
-
-  end-read : headOf (drop e s) ≡ 62 → (K : List Expected) → run v (afterStep ∷ K) (drop e s) ≡ run false K (drop (e + 1) s)
-  end-read c K = let q = front s e 62 c (omega arith) .1 in rw q (path-ends v K (drop (e + 1) s))
-
-  pub path-last : (r : Parsed) (after : List ℕ) → headOf (drop e s) ≡ 62 → LastStep (e + 1) (k + h .entries) h mid r after → PathParsed s at k rows r after
-  unfolding ahead piecesT wordyT weightT GoodT signByte
-  path-last r after c (z, y) =
-      let (l, q) = front s e 62 c (omega arith) in
-      let t = x .2 in
-      let o = step-own (t .tree) in
-      let same = t .is-form in
-      rw z (
-        record {
-          on = omega (arith, x .0 .on);
-          within = omega arith;
-          entries-fit = omega (arith, x .0 .entries-fit);
-          bytes-fit = omega (arith, x .0 .bytes-fit, bytes-few (h .form));
-        },
-        refl,
-        λ K. x .1 K ∙ end-read c K,
-        record {
-          tree = only (t .tree);
-          labels = t .labels;
-          reads = t .reads ∙ rw (q, ahead-step (t .tree) false (sign greater ∷ []) (drop (e + 1) s));
-          counts = rw (same, t .counts, o .entries);
-          weighs = rw (same, t .weighs, o .bytes);
-          noted = last-noted (t .tree) h same (t .counts) k rows mid (t .noted) after y;
-        },
-      )
-
-  pub path-more : (p r : Parsed) (next after : List ℕ) → headOf (drop e s) ≡ 47 → PathParsed s (e + 1) (k + h .entries) mid p next
-      → Joined p (k + h .entries) h next r after → PathParsed s at k rows r after
-  unfolding ahead piecesT wordyT weightT GoodT signByte
-  path-more (Bad q) r next after c (l, g) z = rw z (l, λ K. x .1 K ∙ on-read c K ∙ g K)
-  path-more (Done d u m b) r next after c (l, i, g, y) (z, f) =
-      let q = front s e 47 c (omega arith) .1 in
-      let t = x .2 in
-      let o = step-own (t .tree) in
-      let same = t .is-form in
-      rw z (
-        record {
-          on = omega (arith, x .0 .on, l .on);
-          within = l .within;
-          entries-fit = omega (arith, x .0 .entries-fit, l .entries-fit);
-          bytes-fit = omega (arith, x .0 .bytes-fit, l .bytes-fit, bytes-few (h .form));
-        },
-        i,
-        λ K. x .1 K ∙ on-read c K ∙ g K,
-        record {
-          tree = _then_ (t .tree) (y .tree);
-          labels = (t .labels, y .labels);
-          reads = t .reads ∙ rw (q, y .reads, ahead-step (t .tree) false (sign slash ∷ piecesP (y .tree) (sign greater ∷ [])) (drop d s));
-          counts = added m (h .entries) (formEntries (h .form)) _ _ (y .counts) (rw (same, t .counts, o .entries));
-          weighs = added b (h .bytes) (formBytes (h .form)) _ _ (y .weighs) (rw (same, t .weighs, o .bytes));
-          noted = more-noted (t .tree) h same (t .counts) k rows mid (t .noted) (y .tree) m next after (y .counts) (y .noted) f;
-        },
-      )
+      -- One step more, and its `/`.
+      pub went-more : headOf (drop e s) ≡ 47 → Went s at k rows (e + 1) (entries + n) (bytes + b) (k + (entries + n)) after
+      unfolding ahead piecesT weightT GoodT signByte noteT
+      went-more c =
+          let (l, q) = front s e 47 c (omega arith) in
+          let t = y .2 in
+          let st = t .tree in
+          record {
+            on = omega (arith, x .on, y .0 .on);
+            within = omega arith;
+            entries-fit = omega (arith, x .entries-fit, y .0 .entries-fit);
+            bytes-fit = omega (arith, x .bytes-fit, y .0 .bytes-fit);
+            goes = λ K. x .goes K ∙ y .1 K ∙ on-read c K;
+            whole = λ p. x .whole (_then_ st p);
+            labels = λ p g. x .labels (_then_ st p) (t .labels, g);
+            reads = λ p r h.
+                x .reads (_then_ st p) r (t .reads ∙ rw (q, h, ahead-step st false (sign slash ∷ piecesP p (sign greater ∷ [])) r));
+            counts = λ p. omega (arith, x .counts (_then_ st p), t .counts);
+            weighs = λ p. omega (arith, x .weighs (_then_ st p), t .weighs);
+            noted = λ p. x .noted (_then_ st p) ∙ more-noted p st (t .counts) (t .noted);
+          } where
+            more-noted : (p : Path) (st : Step) → n ≡ entriesS st → after ≡ noteS st (k + entries) before now
+                → (let m = k + entries + entriesS st in noteP p m m (noteS st (k + entries) before now)) ≡ noteP p (k + (entries + n)) (k + (entries + n)) after
+            more-noted p st i h = let z : k + (entries + n) ≡ k + entries + entriesS st = omega arith in rw (z, h)
 
 -- ---- ?TEST, (AXIS?TEST)*
 
@@ -305,63 +284,88 @@ while-text : (a : Axis) (t : Test) {s0 s1 s2 : List ℕ} (r : List ℕ) → s0 �
 unfolding ahead piecesT signByte
 while-text a t r e0 e1 e2 = rw (e0, e1, e2, ahead-test t false (sign closing ∷ sign star ∷ []) r)
 
--- A step with a test has one entry of its own at least.
-one-own : (at n e : ℕ) → at + 1 + n ≤ e → at + (n + formEntries 5) ≤ e
-unfolding formEntries
-one-own at n e l = omega arith
+-- What a step counts: what its test does, and its own, which its form tells.
+pub record Own (st : Step) : Type 0 where
+  pub entries : weightS (λ k. 1) st ≡ testEntries st + formEntries (formOf st)
+  pub bytes : weightS recordLength st ≡ testBytes st + formBytes (formOf st)
+  pub rows : (k before : ℕ) (rows : List ℕ) → noteS st k before rows ≡ stepRow st k before (noteTest st k rows)
 
-module _ (s : List ℕ) (at k : ℕ) (rows after : List ℕ) where
+pub step-own : (st : Step) → Own st
+unfolding formEntries formBytes formOf testEntries testBytes weightT whileWeight neighbourKind untilKind recordLength rowOf noteT noteTest
+step-own (along child) = record { entries = refl; bytes = refl; rows = λ k b rows. refl }
+step-own (along parent) = record { entries = refl; bytes = refl; rows = λ k b rows. refl }
+step-own (along right) = record { entries = refl; bytes = refl; rows = λ k b rows. refl }
+step-own (along left) = record { entries = refl; bytes = refl; rows = λ k b rows. refl }
+step-own (along* child) = record { entries = refl; bytes = refl; rows = λ k b rows. refl }
+step-own (along* parent) = record { entries = refl; bytes = refl; rows = λ k b rows. refl }
+step-own (along* right) = record { entries = refl; bytes = refl; rows = λ k b rows. refl }
+step-own (along* left) = record { entries = refl; bytes = refl; rows = λ k b rows. refl }
+step-own (passing t) = record { entries = refl; bytes = refl; rows = λ k b rows. refl }
+step-own (while child t) = record { entries = refl; bytes = refl; rows = λ k b rows. refl }
+step-own (while parent t) = record { entries = refl; bytes = refl; rows = λ k b rows. refl }
+step-own (while right t) = record { entries = refl; bytes = refl; rows = λ k b rows. refl }
+step-own (while left t) = record { entries = refl; bytes = refl; rows = λ k b rows. refl }
+
+-- A step whose test was read: what is known of the text, of the tree and of its test's counts and rows.
+module _ (s : List ℕ) (at k before e n b form : ℕ) (v : Bool) (rows mid after : List ℕ) (r : Parsed) (st : Step) where
+  step-law : at < e → e ≤ length s → at + (n + formEntries form) ≤ e → b ≤ 8 * n → StepReads (drop at s) v (drop e s) → GoodS st → v ≡ wordyS st
+      → drop at s ≡ ahead false (piecesS st []) (drop e s) → form ≡ formOf st → n ≡ testEntries st → b ≡ testBytes st → mid ≡ noteTest st k rows
+      → StepOf (Done e v n b) k form before mid r after → StepParsed s at k before rows r after
+  step-law on within few small goes good ends reads f i j h (z, c) =
+      let o = step-own st in
+      rw z (
+        record { on = on; within = within; entries-fit = few; bytes-fit = omega (arith, bytes-few form) },
+        goes,
+        record {
+          tree = st;
+          labels = good;
+          ends = ends;
+          reads = reads;
+          counts = counted f i;
+          weighs = rw (f, j, o .bytes);
+          noted = c ∙ filled f i ∙ sym (o .rows k before rows);
+        },
+      ) where
+        counted : form ≡ formOf st → n ≡ testEntries st → n + formEntries form ≡ entriesS st
+        counted f i = rw (f, i, step-own st .entries)
+
+        filled : form ≡ formOf st → n ≡ testEntries st → noteRow mid (k + n + formEntries form) form (k + n) before ≡ stepRow st k before (noteTest st k rows)
+        filled f i =
+            let last : k + n + formEntries form ≡ k + entriesS st = omega (arith, counted f i) in rw (last, h, f, i)
+
+module _ (s : List ℕ) (at k before : ℕ) (rows : List ℕ) where
+  pub plain-law : (e : ℕ) (v : Bool) (form : ℕ) (r : Parsed) (after : List ℕ) → StartAt s at (S.Plain e v form) → StepOf (Done e v 0 0) k form before rows r after
+      → StepParsed s at k before rows r after
+  plain-law e v form r after (l, m, g, p) c =
+      step-law s at k before e 0 0 form v rows rows after r (p .tree) (omega arith) m (omega (arith, entries-few form)) (omega arith) g (p .labels) (p .ends)
+      (p .reads) (p .is-form) (p .no-entries) (p .no-bytes) (p .no-rows k rows) c
+
   asked : headOf (drop at s) ≡ 63 → (K : List Expected) → run false (path ∷ K) (drop at s) ≡ run false (test ∷ afterStep ∷ K) (drop (at + 1) s)
   asked h K = let q = front s at 63 h (omega arith) .1 in rw q (step-test false K (drop (at + 1) s))
 
-  pub passing-law : (p : Parsed) (r : Stepped) → headOf (drop at s) ≡ 63 → TestParsed false s (at + 1) k rows p after → SteppedBy p 5 r → StepParsed s at k rows r after
-  unfolding ahead piecesT wordyT GoodT signByte formOf testEntries testBytes noteT
-  passing-law (Bad q) r h (m, g) z = rw z (m, λ K. asked h K ∙ g _)
-  passing-law (Done e v m b) r h (f, g, t) z =
+  -- A step ?TEST has one entry of its own.
+  one-own : (n e : ℕ) → at + 1 + n ≤ e → at + (n + formEntries 5) ≤ e
+  unfolding formEntries
+  one-own n e l = omega arith
+
+  pub passing-law : (p r : Parsed) (mid after : List ℕ) → headOf (drop at s) ≡ 63 → TestParsed false s (at + 1) k rows p mid → StepOf p k 5 before mid r after
+      → StepParsed s at k before rows r after
+  unfolding ahead piecesT wordyT GoodT signByte formOf testEntries testBytes noteTest
+  passing-law (Bad q) r mid after h (m, g) z = rw z (m, λ K. asked h K ∙ g _)
+  passing-law (Done e v m b) r mid after h (f, g, t) z =
       let q = front s at 63 h (omega arith) .1 in
-      rw z (
-        record { on = omega (arith, f .on); within = f .within; entries-fit = one-own at m e (f .entries-fit); bytes-fit = f .bytes-fit },
-        λ K. asked h K ∙ g _,
-        record {
-          tree = passing (t .tree);
-          labels = t .labels;
-          ends = t .ends;
-          reads = q ∙ ap (_∷_ 63) (t .reads);
-          is-form = refl;
-          counts = t .counts;
-          weighs = t .weighs;
-          noted = t .noted;
-        },
-      )
+      step-law s at k before e m b 5 v rows mid after r (passing (t .tree)) (omega (arith, f .on)) (f .within) (one-own m e (f .entries-fit)) (f .bytes-fit)
+      (λ K. asked h K ∙ g _) (t .labels) (t .ends) (q ∙ ap (_∷_ 63) (t .reads)) refl (t .counts) (t .weighs) (t .noted) z
 
   module _ (f form : ℕ) (x : StartAt s at (S.While f form)) where
-    while-done : (d j c : ℕ) (u : Bool) (m : Parsed) (r : Stepped) → TestParsed false s f k rows (Done d u j c) after → Shut (41 ∷ 42 ∷ []) s (Done d u j c) m → SteppedBy m form r
-        → StepParsed s at k rows r after
-    unfolding wordyT GoodT spelt formOf testEntries testBytes noteT
-    while-done d j c u m r (l, g, t) (Missing q, (a, y), i) z = let e : r ≡ T.Stray q = rw i at z in rw e (a, λ K. x .2 .goes K ∙ g _ ∙ y u _)
-    while-done d j c u m r (l, g, t) (At a, (k1, k2, k3), i) z =
+    pub while-law : (p m r : Parsed) (mid after : List ℕ) → TestParsed false s f k rows p mid → Shut (41 ∷ 42 ∷ []) s p m → StepOf m k form before mid r after
+        → StepParsed s at k before rows r after
+    unfolding wordyT GoodT spelt formOf testEntries testBytes noteTest
+    while-law (Bad q) m r mid after (l, g) i z = let e : r ≡ Bad q = rw i at z in rw e (l, λ K. x .2 .goes K ∙ g _)
+    while-law (Done d u j c) m r mid after (l, g, t) (Missing q, (a, y), i) z =
+        let e : r ≡ Bad q = rw i at z in rw e (a, λ K. x .2 .goes K ∙ g _ ∙ y u _)
+    while-law (Done d u j c) m r mid after (l, g, t) (At a, (k1, k2, k3), i) z =
         let w = x .2 in
-        let e : r ≡ T.Step a false (record { form = form; entries = j; bytes = c }) = rw i at z in
-        rw e (
-          record {
-            on = omega (arith, x .0, l .on);
-            within = k2;
-            entries-fit = omega (arith, x .0, l .entries-fit, entries-few form);
-            bytes-fit = l .bytes-fit;
-          },
-          λ K. w .goes K ∙ g _ ∙ star-closed (drop d s) (drop a s) u _ k3,
-          record {
-            tree = while (w .along) (t .tree);
-            labels = t .labels;
-            ends = refl;
-            reads = while-text (w .along) (t .tree) (drop a s) (w .reads) (t .reads) k3;
-            is-form = w .is-form;
-            counts = t .counts;
-            weighs = t .weighs;
-            noted = t .noted;
-          },
-        )
-
-    pub while-law : (p m : Parsed) (r : Stepped) → TestParsed false s f k rows p after → Shut (41 ∷ 42 ∷ []) s p m → SteppedBy m form r → StepParsed s at k rows r after
-    while-law (Bad q) m r (l, g) i z = let e : r ≡ T.Stray q = rw i at z in rw e (l, λ K. x .2 .goes K ∙ g _)
-    while-law (Done d u j c) m r y i z = while-done d j c u m r y i z
+        step-law s at k before a j c form false rows mid after r (while (w .along) (t .tree)) (omega (arith, x .0, l .on)) k2
+        (omega (arith, x .0, l .entries-fit, entries-few form)) (l .bytes-fit) (λ K. w .goes K ∙ g _ ∙ star-closed (drop d s) (drop a s) u _ k3) (t .labels) refl
+        (while-text (w .along) (t .tree) (drop a s) (w .reads) (t .reads) k3) (w .is-form) (t .counts) (t .weighs) (t .noted) (rw i at z)

@@ -8,13 +8,13 @@ use mathlib.Core.List.{List, [], _∷_, _++_}
 use lib.ListN.{length, drop}
 use lib.Dec.{leb}
 use Rattle.text.specs.Decimal.{decimal}
-use Rattle.paths.specs.Syntax.{Axis, Test, Path, Step, GoodT, GoodP, GoodS}
+use Rattle.paths.specs.Syntax.{Axis, Test, Path, Step, along, along*, passing, while, GoodT, GoodP, GoodS}
 use Rattle.paths.specs.Spelling.{greater, sign, axisWord, notWord, orWord, gap, piecesT, piecesP, piecesS, textOf, Text, StopsAt}
 use Rattle.paths.specs.Translation.{neighbourKind, tableOf}
 use Rattle.paths.specs.Answer.{TextOf, bytesFor, Gets}
 use Rattle.paths.proofs.Machine.{Expected, test, lettered, alternative, number, path, axis, afterStep, byte, stopped, run}
 use Rattle.paths.proofs.Ahead.{wordyT, wordyS, ahead}
-use Rattle.paths.proofs.Count.{weightT, weightP, recordLength}
+use Rattle.paths.proofs.Count.{weightT, weightP, weightS, recordLength}
 use Rattle.paths.proofs.Descent.{Reads, Stops, spelt}
 use Rattle.parse.specs.declared.words.Word.{Word}
 use Rattle.parse.specs.declared.words.Word.the-variants.{At, Missing}
@@ -26,9 +26,6 @@ use Rattle.parse.specs.declared.begins.Start.{Start}
 use Rattle.parse.specs.declared.begins.Start.the-variants as S
 use Rattle.parse.specs.declared.tree.Parsed.{Parsed}
 use Rattle.parse.specs.declared.tree.Parsed.the-variants.{Done, Bad}
-use Rattle.parse.specs.declared.tree.Head.{Head}
-use Rattle.parse.specs.declared.tree.Stepped.{Stepped}
-use Rattle.parse.specs.declared.tree.Stepped.the-variants as T
 use Rattle.parse.specs.declared.tree.Outcome.{Outcome}
 use Rattle.parse.specs.declared.tree.Outcome.the-variants as O
 use Rattle.parse.specs.Rows.{noRows, noteRow, formOf, formEntries, formBytes, leafTree, testEntries, testBytes, noteT, noteP, noteS}
@@ -80,18 +77,17 @@ pub record PathIs (s r : List ℕ) (entries bytes k : ℕ) (rows after : List �
   pub reads : s ≡ ahead false (piecesP tree (sign greater ∷ [])) r
   pub counts : entries ≡ weightP (λ k. 1) tree
   pub weighs : bytes ≡ weightP recordLength tree
-  pub noted : after ≡ noteP tree k rows
+  pub noted : after ≡ noteP tree k 0 rows
 
--- .. of a step, and then r; only its test counts and is noted.
-pub record StepIs (s r : List ℕ) (behind : Bool) (head : Head) (k : ℕ) (rows after : List ℕ) : Type 0 where
+-- .. of a step, and then r; the step before it is in row `before`.
+pub record StepIs (s r : List ℕ) (behind : Bool) (entries bytes k before : ℕ) (rows after : List ℕ) : Type 0 where
   pub tree : Step
   pub labels : GoodS tree
   pub ends : behind ≡ wordyS tree
   pub reads : s ≡ ahead false (piecesS tree []) r
-  pub is-form : head .form ≡ formOf tree
-  pub counts : head .entries ≡ testEntries tree
-  pub weighs : head .bytes ≡ testBytes tree
-  pub noted : after ≡ noteS tree k rows
+  pub counts : entries ≡ weightS (λ k. 1) tree
+  pub weighs : bytes ≡ weightS recordLength tree
+  pub noted : after ≡ noteS tree k before rows
 
 -- Bytes were read, at least one for each entry, and no record is longer than 8.
 pub record Fits (s : List ℕ) (at end entries bytes : ℕ) : Type 0 where
@@ -99,13 +95,6 @@ pub record Fits (s : List ℕ) (at end entries bytes : ℕ) : Type 0 where
   pub within : end ≤ length s
   pub entries-fit : at + entries ≤ end
   pub bytes-fit : bytes ≤ 8 * entries
-
--- .. for a step, its own entries too.
-pub record HeadFits (s : List ℕ) (at end : ℕ) (head : Head) : Type 0 where
-  pub on : at < end
-  pub within : end ≤ length s
-  pub entries-fit : at + (head .entries + formEntries (head .form)) ≤ end
-  pub bytes-fit : head .bytes ≤ 8 * head .entries
 
 abbrev pub TestParsed : (after : Bool) (s : List ℕ) (at k : ℕ) (rows : List ℕ) → Parsed → List ℕ → Type 0
 TestParsed w s at k rows (Done e v n b) rows' =
@@ -120,10 +109,25 @@ PathParsed s at k rows (Bad p) rows' = (p ≤ length s) × Stops false path (dro
 abbrev pub StepReads : (s : List ℕ) (behind : Bool) (r : List ℕ) → Type 0
 StepReads s v r = (K : List Expected) → run false (path ∷ K) s ≡ run v (afterStep ∷ K) r
 
-abbrev pub StepParsed : (s : List ℕ) (at k : ℕ) (rows : List ℕ) → Stepped → List ℕ → Type 0
-StepParsed s at k rows (T.Step e v head) rows' =
-    HeadFits s at e head × StepReads (drop at s) v (drop e s) × StepIs (drop at s) (drop e s) v head k rows rows'
-StepParsed s at k rows (T.Stray p) rows' = (p ≤ length s) × Stops false path (drop at s) (drop p s)
+abbrev pub StepParsed : (s : List ℕ) (at k before : ℕ) (rows : List ℕ) → Parsed → List ℕ → Type 0
+StepParsed s at k before rows (Done e v n b) rows' =
+    Fits s at e n b × StepReads (drop at s) v (drop e s) × StepIs (drop at s) (drop e s) v n b k before rows rows'
+StepParsed s at k before rows (Bad p) rows' = (p ≤ length s) × Stops false path (drop at s) (drop p s)
+
+-- The steps of a path so far: its rest is read from here as the whole would be from its beginning. `whole` puts these steps in front of
+-- a path.
+pub record Went (s : List ℕ) (at k : ℕ) (rows : List ℕ) (from entries bytes before : ℕ) (now : List ℕ) : Type 0 where
+  pub on : at ≤ from
+  pub within : from ≤ length s
+  pub entries-fit : at + entries ≤ from
+  pub bytes-fit : bytes ≤ 8 * entries
+  pub goes : (K : List Expected) → run false (path ∷ K) (drop at s) ≡ run false (path ∷ K) (drop from s)
+  pub whole : Path → Path
+  pub labels : (p : Path) → GoodP p → GoodP (whole p)
+  pub reads : (p : Path) (r : List ℕ) → drop from s ≡ ahead false (piecesP p (sign greater ∷ [])) r → drop at s ≡ ahead false (piecesP (whole p) (sign greater ∷ [])) r
+  pub counts : (p : Path) → weightP (λ k. 1) (whole p) ≡ entries + weightP (λ k. 1) p
+  pub weighs : (p : Path) → weightP recordLength (whole p) ≡ bytes + weightP recordLength p
+  pub noted : (p : Path) → noteP (whole p) k 0 rows ≡ noteP p (k + entries) before now
 
 -- ---- what begins at a cursor
 
@@ -172,12 +176,26 @@ pub record While (s r : List ℕ) (form : ℕ) : Type 0 where
   pub reads : s ≡ 40 ∷ (axisWord along ++ (63 ∷ r))
   pub is-form : form ≡ 8 + neighbourKind along
 
--- A step without a test.
-abbrev pub plainHead : ℕ → Head
-plainHead form = record { form = form; entries = 0; bytes = 0 }
+-- The table with the test of a step noted, if it has one.
+unfoldable pub noteTest : Step → (k : ℕ) → List ℕ → List ℕ
+noteTest (along x) k rows = rows
+noteTest (along* x) k rows = rows
+noteTest (passing t) k rows = noteT t k rows
+noteTest (while x t) k rows = noteT t k rows
+
+-- A step of this form without a test, and then r.
+pub record PlainIs (s r : List ℕ) (behind : Bool) (form : ℕ) : Type 0 where
+  pub tree : Step
+  pub labels : GoodS tree
+  pub ends : behind ≡ wordyS tree
+  pub reads : s ≡ ahead false (piecesS tree []) r
+  pub is-form : form ≡ formOf tree
+  pub no-entries : 0 ≡ testEntries tree
+  pub no-bytes : 0 ≡ testBytes tree
+  pub no-rows : (k : ℕ) (rows : List ℕ) → rows ≡ noteTest tree k rows
 
 abbrev pub StartAt : (s : List ℕ) (at : ℕ) → Start → Type 0
-StartAt s at (S.Plain e v form) = (k : ℕ) (rows : List ℕ) → StepParsed s at k rows (T.Step e v (plainHead form)) rows
+StartAt s at (S.Plain e v form) = (at + 4 ≤ e) × (e ≤ length s) × StepReads (drop at s) v (drop e s) × PlainIs (drop at s) (drop e s) v form
 StartAt s at S.Test = headOf (drop at s) ≡ 63
 StartAt s at (S.While e form) = (at + 6 ≤ e) × (e ≤ length s) × While (drop at s) (drop e s) form
 StartAt s at (S.Stray p) = (p ≤ length s) × Stops false path (drop at s) (drop p s)
@@ -213,20 +231,14 @@ abbrev pub Excepted : Parsed → (k : ℕ) (rows : List ℕ) → Parsed → List
 Excepted (Done e v n b) k rows r rows' = (r ≡ Done e v (n + 1) (b + 6)) × (rows' ≡ noteRow rows (k + n + 1) 3 (k + n) 0)
 Excepted (Bad p) k rows r rows' = r ≡ Bad p
 
-abbrev pub Joined : Parsed → (k : ℕ) → Head → (rows : List ℕ) → Parsed → List ℕ → Type 0
-Joined (Done e v n b) k h rows r rows' =
-    (r ≡ Done e v (n + h .entries + formEntries (h .form)) (b + h .bytes + formBytes (h .form)))
-    × (rows' ≡ noteRow rows (k + n + formEntries (h .form)) (h .form) k (k + n))
-Joined (Bad p) k h rows r rows' = r ≡ Bad p
+abbrev pub EitherOf : Parsed → (k n b : ℕ) (rows : List ℕ) → Parsed → List ℕ → Type 0
+EitherOf (Done e v m c) k n b rows r rows' = (r ≡ Done e v (m + n + 1) (c + b + 8)) × (rows' ≡ noteRow rows (k + m + 1) 4 k (k + m))
+EitherOf (Bad p) k n b rows r rows' = r ≡ Bad p
 
-abbrev pub LastStep : (e k : ℕ) → Head → (rows : List ℕ) → Parsed → List ℕ → Type 0
-LastStep e k h rows r rows' =
-    (r ≡ Done e false (h .entries + formEntries (h .form)) (h .bytes + formBytes (h .form)))
-    × (rows' ≡ noteRow rows (k + formEntries (h .form)) (h .form) k 0)
-
-abbrev pub SteppedBy : Parsed → (form : ℕ) → Stepped → Type 0
-SteppedBy (Done e v n b) form r = r ≡ T.Step e v (record { form = form; entries = n; bytes = b })
-SteppedBy (Bad p) form r = r ≡ T.Stray p
+abbrev pub StepOf : Parsed → (k form before : ℕ) (rows : List ℕ) → Parsed → List ℕ → Type 0
+StepOf (Done e v n b) k form before rows r rows' =
+    (r ≡ Done e v (n + formEntries form) (b + formBytes form)) × (rows' ≡ noteRow rows (k + n + formEntries form) form (k + n) before)
+StepOf (Bad p) k form before rows r rows' = r ≡ Bad p
 
 -- ---- the text
 

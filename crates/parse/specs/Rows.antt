@@ -1,19 +1,20 @@
 -- The table in which reading a text notes its tree. A row has three numbers, its form and two more; rows count from 1, and there are 64.
--- A part of the text stands in the row that is the number of entries before the part and in it, so every part has a row of its own, below
--- the row of each part that it stands in.
+-- A part of the text stands in the row that is the number of entries before the part and in it, so every part has a row of its own,
+-- above the rows of all that it is made of.
 --
 --   form      part of the text          first number         second number
 --   1         true                      0                    0
 --   2         label N                   N                    0
 --   3         not TEST                  row of the test      0
 --   4         (TEST or TEST)            row of the left      row of the right
---   5         ?TEST/..                  row of the test      row of the rest of the path, 0 where the step is the last
---   6 to 9    AXIS/..                   (not used)           as for 5
---   10 to 13  AXIS*/..                  (not used)           as for 5
---   14 to 17  (AXIS?TEST)*/..           row of the test      as for 5
+--   5         ?TEST                     row of the test      row of the step before in its path, 0 for the first
+--   6 to 9    AXIS                      (not used)           as for 5
+--   10 to 13  AXIS*                     (not used)           as for 5
+--   14 to 17  (AXIS?TEST)*              row of the test      as for 5
 --
--- Four forms with an axis are child, parent, right, left; a test <PATH> is its path, and a path is its first step.
--- Laws: proofs/Held.antt. Assumes nothing.
+-- Four forms with an axis are child, parent, right, left. A path stands in the row of its last step, from which its steps are followed
+-- to its first, as its entries go; a test <PATH> is its path.
+-- Laws: proofs/HeldLaws.antt. Assumes nothing.
 use Prim.Native.Nat.{ℕ, zero, suc, _+_, _-_, _*_, _≤_, _<_}
 use mathlib.Core.Path.{_≡_}
 use mathlib.Core.Bool.{cond}
@@ -23,7 +24,7 @@ use lib.ListN.{getD, replicate}
 use lib.Seq.{sets}
 use Rattle.paths.specs.Syntax.{Test, everywhere, labelled, except, either, begins, Path, only, _then_, Step, along, along*, passing, while}
 use Rattle.paths.specs.Translation.{neighbourKind, untilKind}
-use Rattle.paths.proofs.Count.{weightT, weightP, whileWeight, recordLength}
+use Rattle.paths.proofs.Count.{weightT, weightP, weightS, whileWeight, recordLength}
 
 -- A table without rows.
 abbrev pub noRows : List ℕ
@@ -59,12 +60,15 @@ unfoldable pub leafTree : ℕ → Test
 leafTree zero = everywhere
 leafTree (suc n) = labelled (suc n)
 
--- How many entries a test, a path or the test of a step has.
+-- How many entries a test, a path, a step or the test of a step has.
 abbrev pub entriesT : Test → ℕ
 entriesT t = weightT (λ k. 1) t
 
 abbrev pub entriesP : Path → ℕ
 entriesP p = weightP (λ k. 1) p
+
+abbrev pub entriesS : Step → ℕ
+entriesS st = weightS (λ k. 1) st
 
 unfoldable pub testEntries : Step → ℕ
 testEntries (along x) = 0
@@ -79,7 +83,11 @@ testBytes (along* x) = 0
 testBytes (passing t) = weightT recordLength t
 testBytes (while x t) = weightT recordLength t
 
--- The table with a tree noted behind k entries; of a path, the closing "true" among these.
+-- The table with a step's own row filled, behind k entries and those of its test.
+abbrev pub stepRow : Step → (k before : ℕ) → List ℕ → List ℕ
+stepRow st k before rows = noteRow rows (k + entriesS st) (formOf st) (k + testEntries st) before
+
+-- The table with a tree noted behind k entries; of a path, the closing "true" among these, and the row of the step before it.
 unfoldable mutual
   pub noteT : Test → (k : ℕ) → List ℕ → List ℕ
   noteT everywhere k rows = noteRow rows (k + 1) 1 0 0
@@ -87,21 +95,17 @@ unfoldable mutual
   noteT (except t) k rows = let n = k + entriesT t in noteRow (noteT t k rows) (n + 1) 3 n 0
   noteT (either t u) k rows =
       let m = k + entriesT t in let n = m + entriesT u in noteRow (noteT u m (noteT t k rows)) (n + 1) 4 m n
-  noteT (begins p) k rows = noteP p (k + 1) rows
+  noteT (begins p) k rows = noteP p (k + 1) 0 rows
 
-  pub noteP : Path → (k : ℕ) → List ℕ → List ℕ
-  noteP (only st) k rows =
-      let m = k + testEntries st in noteRow (noteS st k rows) (m + ownEntries st) (formOf st) m 0
-  noteP (_then_ st p) k rows =
-      let m = k + testEntries st in
-      let n = m + entriesP p in noteRow (noteP p m (noteS st k rows)) (n + ownEntries st) (formOf st) m n
+  pub noteP : Path → (k before : ℕ) → List ℕ → List ℕ
+  noteP (only st) k before rows = noteS st k before rows
+  noteP (_then_ st p) k before rows = let n = k + entriesS st in noteP p n n (noteS st k before rows)
 
-  -- .. with the test of a step noted, if it has one.
-  pub noteS : Step → (k : ℕ) → List ℕ → List ℕ
-  noteS (along x) k rows = rows
-  noteS (along* x) k rows = rows
-  noteS (passing t) k rows = noteT t k rows
-  noteS (while x t) k rows = noteT t k rows
+  pub noteS : Step → (k before : ℕ) → List ℕ → List ℕ
+  noteS (along x) k before rows = stepRow (along x) k before rows
+  noteS (along* x) k before rows = stepRow (along* x) k before rows
+  noteS (passing t) k before rows = stepRow (passing t) k before (noteT t k rows)
+  noteS (while x t) k before rows = stepRow (while x t) k before (noteT t k rows)
 
 -- Row n is there, with these numbers.
 pub record Row (rows : List ℕ) (n form a b : ℕ) : Type 0 where
@@ -110,7 +114,7 @@ pub record Row (rows : List ℕ) (n form a b : ℕ) : Type 0 where
   pub is-a : getD rows (3 * n - 2) 0 ≡ a
   pub is-b : getD rows (3 * n - 1) 0 ≡ b
 
--- A test stands in row n, and all that it is made of in rows below.
+-- A test stands in row n, and all that it is made of in rows below; of a path and of a step, the step before stands in row b.
 module _ (rows : List ℕ) where
   unfoldable mutual
     pub HeldT : Test → ℕ → Type 0
@@ -118,13 +122,13 @@ module _ (rows : List ℕ) where
     HeldT (labelled l) n = Row rows n 2 l 0
     HeldT (except t) n = (a : ℕ) × (a < n) × Row rows n 3 a 0 × HeldT t a
     HeldT (either t u) n = (a : ℕ) × (b : ℕ) × (a < n) × (b < n) × Row rows n 4 a b × HeldT t a × HeldT u b
-    HeldT (begins p) n = HeldP p n
+    HeldT (begins p) n = HeldP p n 0
 
-    pub HeldP : Path → ℕ → Type 0
-    HeldP (only st) n = HeldS st n 0
-    HeldP (_then_ st p) n = (b : ℕ) × (b < n) × HeldS st n b × HeldP p b
+    pub HeldP : Path → (n b : ℕ) → Type 0
+    HeldP (only st) n b = HeldS st n b
+    HeldP (_then_ st p) n b = (m : ℕ) × (m < n) × HeldS st m b × HeldP p n m
 
-    pub HeldS : Step → (n rest : ℕ) → Type 0
+    pub HeldS : Step → (n b : ℕ) → Type 0
     HeldS (along x) n b = (a : ℕ) × Row rows n (formOf (along x)) a b
     HeldS (along* x) n b = (a : ℕ) × Row rows n (formOf (along* x)) a b
     HeldS (passing t) n b = (a : ℕ) × (a < n) × Row rows n (formOf (passing t)) a b × HeldT t a

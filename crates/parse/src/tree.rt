@@ -7,7 +7,7 @@ ghost use Prim.Native.Nat.{ℕ, _+_, _*_, _-_, _<_, _≤_};
 ghost use lib.ListN.{length, drop};
 ghost use Rattle.parse.specs.declared.tree.Parsed.the-variants.{Done};
 ghost use Rattle.parse.specs.Rows.{noteRow, formEntries, formBytes, leafTree, noteT};
-ghost use Rattle.parse.specs.Promises.{headOf, leafBytes, Small, Ends, Shut, Closing, Excepted, Joined, LastStep, SteppedBy, TestParsed, PathParsed, StepParsed, Read, TreeRead};
+ghost use Rattle.parse.specs.Promises.{headOf, leafBytes, Small, Ends, Shut, Closing, Excepted, EitherOf, StepOf, TestParsed, PathParsed, StepParsed, Read, TreeRead};
 use crate::begins::Begin;
 use crate::begins::Start;
 use crate::begins::begins_at;
@@ -17,25 +17,11 @@ use crate::words::Word;
 use crate::words::byte_at;
 use crate::words::word_at;
 
-// A test or a path: its end, whether a word or number ends there, its entries, its rule's bytes; or
+// A test, a path or a step: its end, whether a word or number ends there, its entries, its rule's bytes; or
 // the place where it stops.
 pub(crate) enum Parsed {
     Done(u16, bool, u16, u16),
     Bad(u16),
-}
-
-// What a whole begins with: its form, and the entries and bytes of its first part, 0 where it has none.
-pub(crate) struct Head {
-    pub form: u16,
-    pub entries: u16,
-    pub bytes: u16,
-}
-
-// A step: its end, whether a word or number ends there, its form and what its test counts; or the
-// place where it stops.
-pub(crate) enum Stepped {
-    Step(u16, bool, Head),
-    Stray(u16),
 }
 
 // A byte string as a text: how many entries it has and how many bytes its rule; or the place where
@@ -119,39 +105,34 @@ fn except(p: Parsed, k: u16, rows: &mut [u16; 192]) -> Parsed
     }
 }
 
-// A first part, and p behind its k-th entry: the right of an `or`, or the rest of a path.
-fn joined(p: Parsed, k: u16, head: Head, rows: &mut [u16; 192]) -> Parsed
-    requires { ⌜ Small p × (k ≤ 1024) × (head .entries ≤ 1024) × (head .bytes ≤ 8192) ⌝ }
-    ensures { λ r. ⌜ Joined p k head (now (rows .entry)) r (now (rows .exit)) ⌝ }
+// `(`, a left with n entries and b bytes that ends with entry k, ` or`, and the right p.
+fn either_of(p: Parsed, k: u16, n: u16, b: u16, rows: &mut [u16; 192]) -> Parsed
+    requires { ⌜ Small p × (k ≤ 1024) × (n ≤ 1024) × (b ≤ 8192) ⌝ }
+    ensures { λ r. ⌜ EitherOf p k n b (now (rows .entry)) r (now (rows .exit)) ⌝ }
 {
     match p {
         Parsed::Bad(q) => Parsed::Bad(q),
-        Parsed::Done(e, v, n, b) => {
-            let own = own_entries(head.form);
-            note_row(rows, k + n + own, head.form, k, k + n);
-            Parsed::Done(
-                e,
-                v,
-                n + head.entries + own,
-                b + head.bytes + own_bytes(head.form),
-            )
+        Parsed::Done(e, v, m, c) => {
+            note_row(rows, k + m + 1, 4, k, k + m);
+            Parsed::Done(e, v, m + n + 1, c + b + 8)
         }
     }
 }
 
-// The last step of a path, which ends at e with its `>`; its test, if it has one, ends with entry k.
-fn last_step(e: u16, k: u16, head: Head, rows: &mut [u16; 192]) -> Parsed
-    requires { ⌜ (k ≤ 1024) × (head .entries ≤ 1024) × (head .bytes ≤ 8192) ⌝ }
-    ensures { λ r. ⌜ LastStep e k head (now (rows .entry)) r (now (rows .exit)) ⌝ }
+// A step of a form, behind k entries. Its test is p, of no entries where it has none; the step before
+// it in its path is in row `before`.
+fn step_of(p: Parsed, k: u16, form: u16, before: u16, rows: &mut [u16; 192]) -> Parsed
+    requires { ⌜ Small p × (k ≤ 1024) ⌝ }
+    ensures { λ r. ⌜ StepOf p k form before (now (rows .entry)) r (now (rows .exit)) ⌝ }
 {
-    let own = own_entries(head.form);
-    note_row(rows, k + own, head.form, k, 0);
-    Parsed::Done(
-        e,
-        false,
-        head.entries + own,
-        head.bytes + own_bytes(head.form),
-    )
+    match p {
+        Parsed::Bad(q) => Parsed::Bad(q),
+        Parsed::Done(e, v, n, b) => {
+            let own = own_entries(form);
+            note_row(rows, k + n + own, form, k + n, before);
+            Parsed::Done(e, v, n + own, b + own_bytes(form))
+        }
+    }
 }
 
 // `<`, and the path p: its closing "true" is one entry more.
@@ -176,24 +157,6 @@ fn shut(s: &[u8], p: Parsed, word: &[u8]) -> Parsed
             Word::Missing(q) => Parsed::Bad(q as u16),
             Word::At(f) => Parsed::Done(f as u16, false, n, b),
         },
-    }
-}
-
-// The step of a form whose test is p.
-fn step_of(p: Parsed, form: u16) -> Stepped
-    ensures { λ r. ⌜ SteppedBy p form r ⌝ }
-{
-    match p {
-        Parsed::Bad(q) => Stepped::Stray(q),
-        Parsed::Done(e, v, n, b) => Stepped::Step(
-            e,
-            v,
-            Head {
-                form: form,
-                entries: n,
-                bytes: b,
-            },
-        ),
     }
 }
 
@@ -226,58 +189,60 @@ fn either(s: &[u8], at: usize, k: u16, rows: &mut [u16; 192]) -> Parsed
             Word::Missing(p) => Parsed::Bad(p as u16),
             Word::At(f) => {
                 let right = test(s, f, true, k + n, rows);
-                let head = Head {
-                    form: 4,
-                    entries: n,
-                    bytes: b,
-                };
-                shut(s, joined(right, k + n, head, rows), b")")
+                shut(s, either_of(right, k + n, n, b, rows), b")")
             }
         },
     }
 }
 
-// STEP> or STEP/PATH
+// Steps with `/` between them, and `>`. A loop and not a call for each step, so that a long path needs
+// no more stack than a short one.
 fn path(s: &[u8], at: usize, k: u16, rows: &mut [u16; 192]) -> Parsed
     requires { ⌜ (at ≤ length (now s)) × (length (now s) ≤ 1024) × (k ≤ at) ⌝ }
     ensures { λ r. ⌜ PathParsed (now (s .entry)) at k (now (rows .entry)) r (now (rows .exit)) ⌝ }
 {
-    match step(s, at, k, rows) {
-        Stepped::Stray(p) => Parsed::Bad(p),
-        Stepped::Step(e, v, head) => {
-            let next = byte_at(s, e as usize);
-            let m = k + head.entries;
-            if next == 62 {
-                return last_step(e + 1, m, head, rows);
+    let mut from = at;
+    let mut entries: u16 = 0;
+    let mut bytes: u16 = 0;
+    let mut before: u16 = 0;
+    loop {
+        match step(s, from, k + entries, before, rows) {
+            Parsed::Bad(p) => {
+                return Parsed::Bad(p);
             }
-            if next != 47 {
-                return Parsed::Bad(e);
+            Parsed::Done(e, v, n, b) => {
+                entries = entries + n;
+                bytes = bytes + b;
+                let next = byte_at(s, e as usize);
+                if next == 62 {
+                    return Parsed::Done(e + 1, false, entries, bytes);
+                }
+                if next != 47 {
+                    return Parsed::Bad(e);
+                }
+                from = e as usize + 1;
+                before = k + entries;
             }
-            let rest = path(s, e as usize + 1, m, rows);
-            joined(rest, m, head, rows)
         }
     }
 }
 
-fn step(s: &[u8], at: usize, k: u16, rows: &mut [u16; 192]) -> Stepped
+fn step(s: &[u8], at: usize, k: u16, before: u16, rows: &mut [u16; 192]) -> Parsed
     requires { ⌜ (at ≤ length (now s)) × (length (now s) ≤ 1024) × (k ≤ at) ⌝ }
-    ensures { λ r. ⌜ StepParsed (now (s .entry)) at k (now (rows .entry)) r (now (rows .exit)) ⌝ }
+    ensures { λ r. ⌜ StepParsed (now (s .entry)) at k before (now (rows .entry)) r (now (rows .exit)) ⌝ }
 {
     match start_at(s, at) {
-        Start::Stray(p) => Stepped::Stray(p as u16),
-        Start::Plain(e, v, form) => Stepped::Step(
-            e as u16,
-            v,
-            Head {
-                form: form,
-                entries: 0,
-                bytes: 0,
-            },
-        ),
-        Start::Test => step_of(test(s, at + 1, false, k, rows), 5),
+        Start::Stray(p) => Parsed::Bad(p as u16),
+        Start::Plain(e, v, form) => {
+            step_of(Parsed::Done(e as u16, v, 0, 0), k, form, before, rows)
+        }
+        Start::Test => {
+            let inner = test(s, at + 1, false, k, rows);
+            step_of(inner, k, 5, before, rows)
+        }
         Start::While(f, form) => {
             let inner = test(s, f, false, k, rows);
-            step_of(shut(s, inner, b")*"), form)
+            step_of(shut(s, inner, b")*"), k, form, before, rows)
         }
     }
 }
