@@ -10,7 +10,7 @@ use crate::random::Random;
 use crate::run::{hex, Run};
 use outside::cause::{Cause, Reply};
 use outside::one_pass::{self, DEPTH, ELEMENTS, PRESENCE, ROOT_CLOSED, STATE_BYTES, ZEROS};
-use outside::records::{read_rule, Tag};
+use outside::records::{read_rule, rule_bytes, Tag};
 use outside::{meaning, tree::Tree};
 
 /// One call of the three; opening has a label.
@@ -89,7 +89,7 @@ pub fn walk_input(run: &mut Run, random: &mut Random) {
     };
     let rule = if size > 1_000 {
         let count = random.between(1, 8);
-        inputs::rule_bytes(&inputs::entries(random, count, &labels, true))
+        rule_bytes(&inputs::entries(random, count, &labels, true))
     } else {
         inputs::valid_rule(random, &labels, true)
     };
@@ -233,7 +233,7 @@ fn rule_ahead(random: &mut Random, labels: &[u16]) -> Vec<u8> {
     let own = at as u16;
     entries[at].a = entries[at].a.min(own - 1);
     entries[at].b = entries[at].b.min(own - 1);
-    inputs::rule_bytes(&entries)
+    rule_bytes(&entries)
 }
 
 /// A state that passes the test, its words noise; depths and counts often at their limits.

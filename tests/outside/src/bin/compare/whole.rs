@@ -7,7 +7,7 @@ use crate::kept::Kept;
 use crate::lent::Lent;
 use crate::random::Random;
 use crate::run::{hex, Run};
-use outside::records::{elements, read_report};
+use outside::records::{elements, read_report, rule_bytes};
 use outside::whole::evaluate;
 
 pub fn input(run: &mut Run, random: &mut Random) {
@@ -17,7 +17,7 @@ pub fn input(run: &mut Run, random: &mut Random) {
         0 => inputs::any_rule(random, &labels, false),
         _ if size > 1_000 && random.chance(7, 8) => {
             let count = random.between(1, 8);
-            inputs::rule_bytes(&inputs::entries(random, count, &labels, false))
+            rule_bytes(&inputs::entries(random, count, &labels, false))
         }
         _ => inputs::valid_rule(random, &labels, false),
     };
