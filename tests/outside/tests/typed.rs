@@ -320,12 +320,40 @@ fn every_small_tree_selects_by_its_entries_what_it_means_by_itself() {
     }
 }
 
+// ---- places
+
 #[test]
 fn every_beginning_of_a_text_can_go_on() {
-    for text in ["(not label 999 or<child/right*/(left?not<?true>)*/parent>)", "not(not<left>or not not label 10)"] {
-        for cut in 1..text.len() {
-            refused(&text[..cut], 13, cut);
+    for text in small_tests(7).iter().flatten().map(Test::text) {
+        for cut in 0..text.len() {
+            let read = grammar::read(&text.as_bytes()[..cut]);
+            assert!(read.is_ok() || read == Err(cut), "{text} cut at {cut}");
         }
-        taken(text);
+    }
+}
+
+/// Goes on from the beginning of a text, byte by byte and by a short way, until it is a text.
+fn gone_on(beginning: &[u8]) -> Vec<u8> {
+    let mut text = beginning.to_vec();
+    while let Err(place) = grammar::read(&text) {
+        assert_eq!(place, text.len());
+        let stands = |next: &u8| grammar::read(&[&text[..], &[*next]].concat()).err().is_none_or(|at| at > place);
+        let ends_soon = b")>*1 t".iter().copied().chain(b'a'..=b'z').chain(*b"?");
+        let next = ends_soon.into_iter().find(stands).expect("some byte can stand here");
+        text.push(next);
+    }
+    text
+}
+
+#[test]
+fn some_text_begins_with_what_stands_before_the_place() {
+    let text = b"(not label 999 or<child/right*/(left?not<?true>)*/(parent?(<left>or label 10))*>)";
+    for (at, other) in (0..text.len()).flat_map(|at| b"x (<)>/?*0notlabel".iter().map(move |other| (at, *other))) {
+        let changed = [&text[..at], &[other], &text[at + 1..]].concat();
+        if let Err(place) = grammar::read(&changed) {
+            let whole = gone_on(&changed[..place]);
+            let tree = grammar::read(&whole).unwrap();
+            assert_eq!(tree.text().as_bytes(), whole);
+        }
     }
 }

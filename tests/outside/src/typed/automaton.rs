@@ -1,9 +1,9 @@
-//! An automaton with a stack, by shift and reduce: its table is worked out from the rules of a grammar, and then it goes
-//! through a text byte by byte. (The method is known as SLR(1).)
+//! An automaton with a stack, by shift and reduce: its table is worked out from the rules of a grammar, and then it
+//! goes through a text byte by byte. (The method is known as SLR(1).)
 //!
 //! Two things come with the method. A grammar for whose rules the table has one action at each place is not ambiguous.
-//! And what has been shifted is always the beginning of some text of the grammar: so where no action is left, the number
-//! of bytes shifted is the length of the longest beginning of the input with which a text of the grammar begins.
+//! And what has been shifted is always the beginning of some text of the grammar: so where no action is left, the
+//! number of bytes shifted is the length of the longest beginning of the input with which a text of the grammar begins.
 
 use std::collections::{BTreeMap, BTreeSet};
 use std::ops::Range;

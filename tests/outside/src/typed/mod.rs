@@ -12,8 +12,8 @@ use syntax::Test;
 
 pub const TEXT_BYTES: usize = 1_024;
 
-/// Reads a text and writes its rule to the front of a lent buffer. Refused: the buffer keeps its contents. Accepted: the
-/// bytes past the rule keep theirs.
+/// Reads a text and writes its rule to the front of a lent buffer. Refused: the buffer keeps its contents. Accepted:
+/// the bytes past the rule keep theirs.
 pub fn read_path(text: &[u8], rule: &mut [u8]) -> (Reply, Vec<Cause>) {
     match written(text, rule) {
         Ok((bytes, causes)) => (Reply::accepted(bytes as u32), causes),

@@ -223,7 +223,7 @@ impl Form {
     pub fn words(self) -> String {
         match self {
             Form::True => "true".to_string(),
-            Form::Label { digits } => format!("label with {digits} digits"),
+            Form::Label { digits } => format!("label with a number of {digits} digit(s)"),
             Form::Not => "not test".to_string(),
             Form::Or => "(test or test)".to_string(),
             Form::Path => "<path>".to_string(),

@@ -56,7 +56,7 @@ fn compare(run: &mut Run, random: &mut Random, step: Step, rule: &[u8], state: &
     let kept = lent_rule.untouched() && lent_state.guards_kept();
     let input = || format!("  {step:?}\n{}\n{}", hex("rule", rule), hex("state", lent_state.lent()));
     run.same(step.call(), (due, true), (reply, kept), input);
-    run.same(step.call(), first_difference(state, lent_state.content()), None, input);
+    run.same(step.call(), lent_state.first_difference(state), None, input);
     let (argument, rule) = match step {
         Step::Start => (0, &[][..]),
         Step::Open(label) => (label, rule),
@@ -66,15 +66,6 @@ fn compare(run: &mut Run, random: &mut Random, step: Step, rule: &[u8], state: &
     run.keep(&Kept { call: step.call(), argument, answer, rule, report: &[], before: lent_state.lent(), after: state });
     run.met(step.call(), &causes);
     due
-}
-
-/// Where two states differ first: the offset and the two bytes.
-fn first_difference(due: &[u8], found: &[u8]) -> Option<(usize, u8, u8)> {
-    due.iter()
-        .zip(found)
-        .enumerate()
-        .find(|(_, (due, found))| due != found)
-        .map(|(at, (due, found))| (at, *due, *found))
 }
 
 // ---- walks
