@@ -86,20 +86,21 @@ fn spelt(text: &[u8]) -> String {
 }
 
 /// The rule that was written for a text: the rule reader takes it, and on a report it selects the text's own elements.
+/// Its bytes have been compared by now, so a difference is put down to the call that was made with them.
 fn compare_rule(run: &mut Run, random: &mut Random, text: &[u8], rule: &[u8]) {
     let test = grammar::read(text).expect("an accepted text has a tree");
     assert_eq!(test.text().as_bytes(), text, "a text is the text of its tree");
     let entries = translation::entries(&test);
     let input = || format!("{}\n{}", spelt(text), hex("rule", rule));
     let taken = exported::read_rule(&Lent::bytes(random, rule));
-    run.same(Call::ReadPath, Reply::accepted(entries.len() as u32), taken, input);
+    run.same(Call::ReadRule, Reply::accepted(entries.len() as u32), taken, input);
 
     let tags = report_tags(random, &entries);
     let due = pairs::elements(&test, &Tree::of(&tags));
     let input = || format!("{}\n{}", input(), hex("report", &inputs::report_bytes(&tags)));
-    run.same(Call::ReadPath, &due, &evaluated(random, rule, &tags, entries.len() - 1), input);
+    run.same(Call::Evaluate, &due, &evaluated(random, rule, &tags, entries.len() - 1), input);
     let at_opening = (!test.looks_ahead()).then_some(due);
-    run.same(Call::ReadPath, at_opening, opened(random, rule, &tags), input);
+    run.same(Call::Open, at_opening, opened(random, rule, &tags), input);
 }
 
 /// The elements that the exported evaluator selects: those with the bit of the last entry.
