@@ -84,6 +84,7 @@ const TEXT_ACCEPTED: &[Cause] = &[
     Entries64,
     TextLooksBack,
     TextLooksAhead,
+    TextSelectsSome,
     TextBytes448,
     RuleBytes456,
     RuleRoomExact,

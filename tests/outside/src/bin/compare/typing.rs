@@ -9,7 +9,7 @@ use crate::random::Random;
 use crate::run::{hex, Run};
 use crate::text_edges;
 use crate::texts;
-use outside::cause::Reply;
+use outside::cause::{met, Cause, Reply};
 use outside::one_pass::STATE_BYTES;
 use outside::records::{elements, rule_bytes, Entry, Tag};
 use outside::tree::Tree;
@@ -97,6 +97,8 @@ fn compare_rule(run: &mut Run, random: &mut Random, text: &[u8], rule: &[u8]) {
 
     let tags = report_tags(random, &entries);
     let due = pairs::elements(&test, &Tree::of(&tags));
+    let some = !due.is_empty() && due.len() < elements(&tags);
+    run.met(Call::ReadPath, &met([(some, Cause::TextSelectsSome)]));
     let input = || format!("{}\n{}", input(), hex("report", &inputs::report_bytes(&tags)));
     run.same(Call::Evaluate, &due, &evaluated(random, rule, &tags, entries.len() - 1), input);
     let at_opening = (!test.looks_ahead()).then_some(due);
