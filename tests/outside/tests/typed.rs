@@ -233,7 +233,7 @@ fn largest_rules() -> Most {
 fn the_longest_text_that_can_be_taken() {
     assert_eq!(longest_texts().into_iter().max(), Some(448));
     let label = || Test::Label(999);
-    let text = (1..32).fold(Test::not(label()), |test, _| Test::or(test, label())).text();
+    let text = (1..32).fold(Test::negation(label()), |test, _| Test::or(test, label())).text();
     assert_eq!((text.len(), entry_count(&text)), (448, 64));
 }
 
@@ -254,7 +254,7 @@ fn small_tests(limit: usize) -> Vec<Vec<Test>> {
         if e == 1 {
             own.extend([Test::True, Test::Label(7), Test::Label(70), Test::Label(999)]);
         } else {
-            own.extend(tests[e - 1].iter().cloned().map(Test::not));
+            own.extend(tests[e - 1].iter().cloned().map(Test::negation));
             own.extend(paths[e - 1].iter().cloned().map(Test::Path));
         }
         for left in 1..e.saturating_sub(1) {
@@ -268,7 +268,9 @@ fn small_tests(limit: usize) -> Vec<Vec<Test>> {
         for first in 1..e {
             let rest: &Vec<Vec<Step>> = &paths[e - first];
             own.extend(
-                steps[first].iter().flat_map(|step| rest.iter().map(|path| [&[step.clone()], &path[..]].concat())),
+                steps[first]
+                    .iter()
+                    .flat_map(|step| rest.iter().map(|path| [std::slice::from_ref(step), path].concat())),
             );
         }
         paths.push(own);

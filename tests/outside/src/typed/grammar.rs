@@ -113,7 +113,7 @@ fn label(made: &mut Made, own: &[u8]) {
 
 fn not(made: &mut Made, _: &[u8]) {
     let test = made.test();
-    made.tests.push(Test::not(test));
+    made.tests.push(Test::negation(test));
 }
 
 fn or(made: &mut Made, _: &[u8]) {

@@ -45,7 +45,7 @@ pub enum Step {
 }
 
 impl Test {
-    pub fn not(test: Test) -> Test {
+    pub fn negation(test: Test) -> Test {
         Test::Not(Box::new(test))
     }
 

@@ -94,7 +94,7 @@ fn whole_texts() -> Vec<String> {
     texts.push(format!("not not{}", nested(31)));
     texts.extend([62, 63, 64, 145].map(parents));
     texts.extend([30, 31, 32, 72].map(|count| ors(count, Test::Label(1))));
-    texts.extend([30, 31, 32].map(|count| ors(count, Test::not(Test::Label(999)))));
+    texts.extend([30, 31, 32].map(|count| ors(count, Test::negation(Test::Label(999)))));
     texts.extend([12, 13].map(conditionals));
     texts.extend([12, 13].map(|count| format!("not{}", conditionals(count))));
     texts.push(format!("not not{}", conditionals(12)));

@@ -28,7 +28,7 @@ impl Choice {
         match random.below(8) {
             0 | 1 if entries == 1 => Test::True,
             _ if entries == 1 => Test::Label(random.pick(&self.labels)),
-            0 | 1 => Test::not(self.test(random, entries - 1)),
+            0 | 1 => Test::negation(self.test(random, entries - 1)),
             2..=4 if entries > 2 => {
                 let left = random.between(1, entries - 2);
                 Test::or(self.test(random, left), self.test(random, entries - 1 - left))
