@@ -17,11 +17,12 @@
 #include <sys/mman.h>
 #include <unistd.h>
 
-enum { FUNCTIONS = 7, SHOWN = 5, ROOM = 1 << 17 };
+enum { FUNCTIONS = 8, SHOWN = 5, ROOM = 1 << 17 };
 static const uint32_t AGAIN = 0xFFFFFFFFu;
 
 static const char *const names[FUNCTIONS + 1] = {
-    "the end", "pz_read_rule", "pz_read_report", "pz_evaluate", "pz_start", "pz_open", "pz_close", "pz_tally"};
+    "the end", "pz_read_rule", "pz_read_report", "pz_evaluate", "pz_start", "pz_open", "pz_close", "pz_tally",
+    "pz_read_path"};
 
 static unsigned long passed, failed, calls, counts[FUNCTIONS + 1];
 
@@ -85,7 +86,8 @@ static void get_string(struct string *s)
     get(s->bytes, length);
 }
 
-/* The call in hand. `before` is the lent buffer as it is given, `after` as it must be then. */
+/* The call in hand. For pz_read_path `rule` is the text. `before` is the lent buffer as it is given, `after` as it must
+ * be then. */
 static uint32_t function, argument, answer[4];
 static struct string rule, report, before, after;
 
@@ -175,6 +177,7 @@ static void call(uint32_t reply[4], const uint8_t *lent_rule, const uint8_t *len
     struct pz_rule_reply a;
     struct pz_report_reply b;
     struct pz_evaluation e;
+    struct pz_written w;
     struct pz_step s = {0, 0, 0};
     memset(reply, 0, 4 * sizeof reply[0]);
     switch (function) {
@@ -200,8 +203,12 @@ static void call(uint32_t reply[4], const uint8_t *lent_rule, const uint8_t *len
     case 6:
         s = pz_close(lent_rule, rule.length, buffer, before.length);
         break;
-    default:
+    case 7:
         reply[0] = pz_tally((struct pz_counts *)(void *)buffer, argument);
+        return;
+    default:
+        w = pz_read_path(lent_rule, rule.length, buffer, before.length);
+        reply[0] = w.number, reply[1] = w.place, reply[2] = w.written;
         return;
     }
     reply[0] = s.number, reply[1] = s.place, reply[2] = s.verdict;
@@ -246,7 +253,7 @@ static void replay(enum place place, uint8_t *const guarded[3])
                  place_names[place], i, (unsigned long)reply[i], (unsigned long)answer[i]);
             ok = 0;
         }
-    ok = ok && same("rule", place, lent_rule, &rule);
+    ok = ok && same(function == 8 ? "text" : "rule", place, lent_rule, &rule);
     ok = ok && same("report", place, lent_report, &report);
     ok = ok && same("buffer", place, buffer, &after);
     passed += (unsigned long)ok;

@@ -5,7 +5,7 @@
 use std::env;
 use std::path::PathBuf;
 
-const ARCHIVES: [&str; 4] = ["records", "evaluate", "onepass", "tally"];
+const ARCHIVES: [&str; 5] = ["records", "evaluate", "onepass", "tally", "typing"];
 
 fn wanted(name: &str) -> bool {
     name == "records" || env::var_os(format!("CARGO_FEATURE_{}", name.to_uppercase())).is_some()

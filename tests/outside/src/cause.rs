@@ -1,5 +1,7 @@
 //! The numbers given back, and the causes of each: every clause of the document's table, one by one.
 
+use crate::typed::syntax::Form;
+
 /// One cause of a number. Several may hold of one record; they then share the number.
 /// Those of number 0 are marks that an accepted input reaches.
 #[derive(Clone, Copy, PartialEq, Eq, PartialOrd, Ord, Debug)]
@@ -33,6 +35,15 @@ pub enum Cause {
     ClosedInner,
     ClosedRoot,
     TallyToTheTop,
+    /// A text has this form of test or step in it.
+    Has(Form),
+    TextLooksBack,
+    TextLooksAhead,
+    TextSelectsSome,
+    TextBytes448,
+    RuleBytes456,
+    RuleRoomExact,
+    RuleRoomMore,
 
     RuleEmpty,
     RuleLong,
@@ -74,6 +85,7 @@ pub enum Cause {
     Element4097,
 
     RoomShort,
+    RuleRoomShort,
 
     /// An entry of this kind looks ahead.
     LooksAhead(u16),
@@ -92,6 +104,14 @@ pub enum Cause {
     SumAboveSeen,
     /// The sum is not `seen`, although its low 32 bits are.
     SumWraps,
+
+    TextEmpty,
+    TextLong,
+    TextStray,
+    TextEndsEarly,
+
+    OneEntryOver,
+    EntriesOver,
 }
 
 impl Cause {
@@ -104,6 +124,8 @@ impl Cause {
             RoomExact | RoomMore | Holds(_) | Fails(_) => 0,
             NoParentNoPrevious | ParentAlone | PreviousAlone | ParentAndPrevious => 0,
             DepthNow64 | ElementsNow4096 | VerdictTrue | VerdictFalse | ClosedInner | ClosedRoot | TallyToTheTop => 0,
+            Has(_) | TextLooksBack | TextLooksAhead | TextSelectsSome | TextBytes448 | RuleBytes456 => 0,
+            RuleRoomExact | RuleRoomMore => 0,
             RuleEmpty | RuleLong | InputEndsBeforeRule | InputEndsInsideRule => 1,
             RuleStray | RuleKind | RuleLength | RulePastEnd => 2,
             FirstIsOwn | FirstAboveOwn | SecondIsOwn | SecondAboveOwn | RuleLabelLow | RuleLabelHigh => 3,
@@ -113,11 +135,13 @@ impl Cause {
             ReportLabelLow | ReportLabelHigh | LabelOver16Bits => 6,
             ClosingNothing | ClosingAfterRoot | OpeningAfterRoot | EndOpen => 7,
             Level64 | Element4097 => 8,
-            RoomShort => 9,
+            RoomShort | RuleRoomShort => 9,
             LooksAhead(_) => 10,
             StateLength | DepthOver64 | DepthOverElements | ElementsOver4096 => 11,
             RootClosedOver1 | RootClosedWhileOpen | Byte6NotZero | Byte7NotZero => 11,
             TallyFull | SumBelowSeen | SumAboveSeen | SumWraps => 12,
+            TextEmpty | TextLong | TextStray | TextEndsEarly => 13,
+            OneEntryOver | EntriesOver => 14,
         }
     }
 
@@ -128,6 +152,7 @@ impl Cause {
             Holds(kind) => return format!("an entry of kind {kind} holds somewhere"),
             Fails(kind) => return format!("an entry of kind {kind} does not hold somewhere"),
             LooksAhead(kind) => return format!("an entry of kind {kind} looks ahead"),
+            Has(form) => return form.words(),
             Accepted => "accepted",
             OneEntry => "one entry",
             Entries64 => "64 entries",
@@ -153,6 +178,13 @@ impl Cause {
             ClosedInner => "an inner element closed",
             ClosedRoot => "the root closed",
             TallyToTheTop => "seen becomes 4,294,967,295",
+            TextLooksBack => "neither child nor right",
+            TextLooksAhead => "child or right",
+            TextSelectsSome => "some elements selected, and not all",
+            TextBytes448 => "text of 448 bytes",
+            RuleBytes456 => "rule of 456 bytes written",
+            RuleRoomExact => "as many bytes as the rule",
+            RuleRoomMore => "more bytes than the rule",
             RuleEmpty => "rule of 0 bytes",
             RuleLong => "rule over 512 bytes",
             InputEndsBeforeRule => "input under 2 bytes",
@@ -184,6 +216,7 @@ impl Cause {
             Level64 => "opening at level 64",
             Element4097 => "a 4,097th element",
             RoomShort => "fewer words than elements",
+            RuleRoomShort => "fewer bytes than the rule",
             StateLength => "state of another length",
             DepthOver64 => "depth over 64",
             DepthOverElements => "depth over elements",
@@ -196,6 +229,12 @@ impl Cause {
             SumBelowSeen => "the sum is below seen",
             SumAboveSeen => "the sum is above seen",
             SumWraps => "the sum is seen in its low 32 bits only",
+            TextEmpty => "text of 0 bytes",
+            TextLong => "text over 1,024 bytes",
+            TextStray => "a byte at which no text can go on",
+            TextEndsEarly => "a text that ends too soon",
+            OneEntryOver => "65 entries",
+            EntriesOver => "over 65 entries",
         };
         fixed.to_string()
     }

@@ -1,4 +1,4 @@
-//! Document 01 once more, written from its words alone.
+//! Document 01, as amended by request #101, once more, written from its words alone.
 //!
 //! Nothing here was taken from the proved crates or their specifications, and nothing here is quick: the marks are
 //! found by searching the whole tree for every element, so that a slip of the proved code or of its specification is
@@ -12,4 +12,5 @@ pub mod program;
 pub mod records;
 pub mod tally;
 pub mod tree;
+pub mod typed;
 pub mod whole;

@@ -48,6 +48,18 @@ pub fn looks_ahead(kind: u16) -> bool {
     matches!(kind, 6 | 8 | 10 | 12 | 14)
 }
 
+/// The bytes of entries: a kind gets its own length, one that there is not has no body.
+pub fn rule_bytes(entries: &[Entry]) -> Vec<u8> {
+    let mut bytes = Vec::new();
+    for entry in entries {
+        let length = rule_length(entry.kind).unwrap_or(2);
+        let fields = [length, entry.kind, entry.a, entry.b];
+        let used = 1 + usize::from(length) / 2;
+        bytes.extend(fields[..used].iter().flat_map(|field| field.to_le_bytes()));
+    }
+    bytes
+}
+
 /// The two-byte number at an offset.
 fn number_at(bytes: &[u8], at: usize) -> u16 {
     u16::from_le_bytes([bytes[at], bytes[at + 1]])

@@ -4,10 +4,27 @@
 use outside::cause::Reply;
 use outside::tally::Tally;
 use outside::whole::WholeReply;
-use outside::{one_pass, records, tally, whole};
-use std::slice::{from_raw_parts, from_raw_parts_mut};
+use outside::{one_pass, records, tally, typed, whole};
+use std::slice;
 
-// What each caller owes: every pointer is valid for its length, and no two buffers overlap.
+// What each caller owes: every pointer is valid for its length, and no two buffers overlap. NULL with length 0 is an
+// empty buffer, which the library's functions of these names do not take.
+
+unsafe fn from_raw_parts<'a, T>(pointer: *const T, len: usize) -> &'a [T] {
+    if len == 0 {
+        &[]
+    } else {
+        slice::from_raw_parts(pointer, len)
+    }
+}
+
+unsafe fn from_raw_parts_mut<'a, T>(pointer: *mut T, len: usize) -> &'a mut [T] {
+    if len == 0 {
+        &mut []
+    } else {
+        slice::from_raw_parts_mut(pointer, len)
+    }
+}
 
 #[no_mangle]
 pub unsafe extern "C" fn pz_read_rule(rule: *const u8, rule_len: usize) -> Reply {
@@ -56,4 +73,9 @@ pub unsafe extern "C" fn pz_close(rule: *const u8, rule_len: usize, state: *mut 
 #[no_mangle]
 pub unsafe extern "C" fn pz_tally(tally: *mut Tally, verdict: u32) -> u32 {
     tally::count(&mut *tally, verdict != 0).0
+}
+
+#[no_mangle]
+pub unsafe extern "C" fn pz_read_path(text: *const u8, text_len: usize, rule: *mut u8, rule_len: usize) -> Reply {
+    typed::read_path(from_raw_parts(text, text_len), from_raw_parts_mut(rule, rule_len)).0
 }

@@ -1,6 +1,7 @@
 //! The calls that are compared, and the causes that a run must have met by each.
 
 use outside::cause::Cause::{self, *};
+use outside::typed::syntax::Form;
 
 #[derive(Clone, Copy, PartialEq, Eq, PartialOrd, Ord, Debug)]
 pub enum Call {
@@ -11,6 +12,7 @@ pub enum Call {
     Open,
     Close,
     Tally,
+    ReadPath,
     Program,
 }
 
@@ -76,6 +78,21 @@ const OPENED: &[Cause] = &[
 const OPEN_REFUSED: &[Cause] =
     &[ReportLabelLow, ReportLabelHigh, LabelOver16Bits, OpeningAfterRoot, Level64, Element4097];
 
+const TEXT_ACCEPTED: &[Cause] = &[
+    Accepted,
+    OneEntry,
+    Entries64,
+    TextLooksBack,
+    TextLooksAhead,
+    TextSelectsSome,
+    TextBytes448,
+    RuleBytes456,
+    RuleRoomExact,
+    RuleRoomMore,
+];
+const TEXT_REFUSED: &[Cause] =
+    &[TextEmpty, TextLong, TextStray, TextEndsEarly, OneEntryOver, EntriesOver, RuleRoomShort];
+
 /// That an entry of each of these kinds holds somewhere, and fails somewhere; only kind 1 never fails.
 fn kinds(all: impl Iterator<Item = u16>) -> Vec<Cause> {
     all.flat_map(|kind| [Holds(kind), Fails(kind)]).filter(|cause| *cause != Fails(1)).collect()
@@ -91,6 +108,7 @@ impl Call {
             Call::Open => "pz_open",
             Call::Close => "pz_close",
             Call::Tally => "pz_tally",
+            Call::ReadPath => "pz_read_path",
             Call::Program => "program",
         }
     }
@@ -117,6 +135,10 @@ impl Call {
             Call::Tally => {
                 let accepted = [Accepted, VerdictTrue, VerdictFalse, TallyToTheTop];
                 [&accepted[..], &[TallyFull, SumBelowSeen, SumAboveSeen, SumWraps]].concat()
+            }
+            Call::ReadPath => {
+                let forms: Vec<Cause> = Form::all().into_iter().map(Has).collect();
+                [TEXT_ACCEPTED, &forms, TEXT_REFUSED].concat()
             }
             Call::Program => {
                 let input = [InputEndsBeforeRule, InputEndsInsideRule];

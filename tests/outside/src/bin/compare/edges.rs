@@ -1,7 +1,7 @@
 //! The document's samples and edges: every run begins with these.
 
-use crate::inputs::{report_bytes, rule_bytes};
-use outside::records::{Entry, Tag};
+use crate::inputs::report_bytes;
+use outside::records::{rule_bytes, Entry, Tag};
 
 fn entry(kind: u16, a: u16, b: u16) -> Entry {
     Entry { kind, a, b }

@@ -34,6 +34,11 @@ mod c {
     extern "C" {
         pub fn pz_tally(tally: *mut outside::tally::Tally, verdict: u32) -> u32;
     }
+
+    #[cfg(feature = "typing")]
+    extern "C" {
+        pub fn pz_read_path(text: *const u8, text_len: usize, rule: *mut u8, rule_len: usize) -> Reply;
+    }
 }
 
 // Each call is sound: a `Lent` is as long as it says, and no two overlap.
@@ -72,4 +77,9 @@ pub fn close(rule: &Lent<u8>, state: &mut Lent<u8>) -> Reply {
 pub fn tally(tally: &mut Lent<u32>, verdict: u32) -> u32 {
     assert_eq!(tally.len(), 3);
     unsafe { c::pz_tally(tally.pointer_mut().cast(), verdict) }
+}
+
+#[cfg(feature = "typing")]
+pub fn read_path(text: &Lent<u8>, rule: &mut Lent<u8>) -> Reply {
+    unsafe { c::pz_read_path(text.pointer(), text.len(), rule.pointer_mut(), rule.len()) }
 }

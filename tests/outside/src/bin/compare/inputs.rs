@@ -1,7 +1,7 @@
 //! Rules and reports: valid ones, ones damaged near the format, and noise.
 
 use crate::random::Random;
-use outside::records::{looks_ahead, rule_length, Entry, Tag};
+use outside::records::{looks_ahead, rule_bytes, Entry, Tag};
 
 /// Numbers at which something in the format changes.
 const NEAR: [u16; 30] = [
@@ -20,18 +20,6 @@ pub fn labels(random: &mut Random) -> Vec<u16> {
 }
 
 // ---- rules
-
-/// The bytes of entries: a kind gets its own length, one that there is not has no body.
-pub fn rule_bytes(entries: &[Entry]) -> Vec<u8> {
-    let mut bytes = Vec::new();
-    for entry in entries {
-        let length = rule_length(entry.kind).unwrap_or(2);
-        let fields = [length, entry.kind, entry.a, entry.b];
-        let used = 1 + usize::from(length) / 2;
-        bytes.extend(fields[..used].iter().flat_map(|field| field.to_le_bytes()));
-    }
-    bytes
-}
 
 /// `count` entries that name earlier ones, often near ones; with `back` only kinds that look back.
 pub fn entries(random: &mut Random, count: usize, labels: &[u16], back: bool) -> Vec<Entry> {

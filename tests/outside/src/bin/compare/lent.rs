@@ -36,6 +36,13 @@ impl<T: Copy + PartialEq> Lent<T> {
         &self.before[self.start..self.start + self.len]
     }
 
+    /// Where the content differs first from what is due: the index, what is due there and what was found.
+    pub fn first_difference(&self, due: &[T]) -> Option<(usize, T, T)> {
+        assert_eq!(due.len(), self.len);
+        let mut pairs = due.iter().zip(self.content()).enumerate();
+        pairs.find(|(_, (due, found))| due != found).map(|(at, (due, found))| (at, *due, *found))
+    }
+
     pub fn guards_kept(&self) -> bool {
         let end = self.start + self.len;
         self.region[..self.start] == self.before[..self.start] && self.region[end..] == self.before[end..]
@@ -50,13 +57,22 @@ impl<T: Copy + PartialEq> Lent<T> {
 impl Lent<u8> {
     /// Bytes at any alignment. The guards are zeros, ones, noise, or records that would go on.
     pub fn bytes(random: &mut Random, content: &[u8]) -> Lent<u8> {
-        const PATTERNS: [&[u8]; 5] = [&[0], &[255], &[2, 0, 2, 0], &[4, 0, 1, 0, 5, 0], &[2, 0, 1, 0]];
+        Lent::among(random, content, &[&[0], &[255], &[2, 0, 2, 0], &[4, 0, 1, 0, 5, 0], &[2, 0, 1, 0]])
+    }
+
+    /// A text at any alignment. The guards are noise, or would go on with a text or end it.
+    #[cfg(feature = "typing")]
+    pub fn text(random: &mut Random, content: &[u8]) -> Lent<u8> {
+        Lent::among(random, content, &[&[0], b" ", b"0", b"9", b"e", b">", b")", b"*", b"/left", b"true", b" or true)"])
+    }
+
+    fn among(random: &mut Random, content: &[u8], patterns: &[&[u8]]) -> Lent<u8> {
         let front = random.between(16, 31);
         let [front, back] = [front, 24].map(|len| {
             if random.chance(1, 4) {
                 random.bytes(len)
             } else {
-                let pattern = random.pick(&PATTERNS);
+                let pattern = random.pick(patterns);
                 pattern.iter().copied().cycle().take(len).collect()
             }
         });

@@ -24,6 +24,12 @@ mod readers;
 mod run;
 #[cfg(feature = "tally")]
 mod tally;
+#[cfg(feature = "typing")]
+mod text_edges;
+#[cfg(feature = "typing")]
+mod texts;
+#[cfg(feature = "typing")]
+mod typing;
 #[cfg(feature = "evaluate")]
 mod whole;
 
@@ -34,7 +40,7 @@ use run::Run;
 use std::process::ExitCode;
 
 /// How many inputs a short run makes.
-const INPUTS: u64 = 80_000;
+const INPUTS: u64 = 100_000;
 /// The program is run once for so many inputs.
 const PROGRAM_SHARE: u64 = 50;
 
@@ -57,6 +63,10 @@ const FAMILIES: &[Family] = &[
     one_pass::state_input,
     #[cfg(feature = "tally")]
     tally::input,
+    #[cfg(feature = "typing")]
+    typing::input,
+    #[cfg(feature = "typing")]
+    typing::input,
 ];
 
 /// The calls that this build compares.
@@ -70,6 +80,9 @@ fn calls(with_program: bool) -> Vec<Call> {
     }
     if cfg!(feature = "tally") {
         calls.push(Call::Tally);
+    }
+    if cfg!(feature = "typing") {
+        calls.push(Call::ReadPath);
     }
     if with_program {
         calls.push(Call::Program);
@@ -91,6 +104,8 @@ fn fixed_inputs(run: &mut Run, random: &mut Random) {
     fixed_walks(run, random);
     #[cfg(feature = "onepass")]
     one_pass::orders(run, random);
+    #[cfg(feature = "typing")]
+    typing::fixed_inputs(run, random);
 }
 
 #[cfg(feature = "evaluate")]

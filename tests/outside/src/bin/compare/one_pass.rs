@@ -10,7 +10,7 @@ use crate::random::Random;
 use crate::run::{hex, Run};
 use outside::cause::{Cause, Reply};
 use outside::one_pass::{self, DEPTH, ELEMENTS, PRESENCE, ROOT_CLOSED, STATE_BYTES, ZEROS};
-use outside::records::{read_rule, Tag};
+use outside::records::{read_rule, rule_bytes, Tag};
 use outside::{meaning, tree::Tree};
 
 /// One call of the three; opening has a label.
@@ -56,7 +56,7 @@ fn compare(run: &mut Run, random: &mut Random, step: Step, rule: &[u8], state: &
     let kept = lent_rule.untouched() && lent_state.guards_kept();
     let input = || format!("  {step:?}\n{}\n{}", hex("rule", rule), hex("state", lent_state.lent()));
     run.same(step.call(), (due, true), (reply, kept), input);
-    run.same(step.call(), first_difference(state, lent_state.content()), None, input);
+    run.same(step.call(), lent_state.first_difference(state), None, input);
     let (argument, rule) = match step {
         Step::Start => (0, &[][..]),
         Step::Open(label) => (label, rule),
@@ -66,15 +66,6 @@ fn compare(run: &mut Run, random: &mut Random, step: Step, rule: &[u8], state: &
     run.keep(&Kept { call: step.call(), argument, answer, rule, report: &[], before: lent_state.lent(), after: state });
     run.met(step.call(), &causes);
     due
-}
-
-/// Where two states differ first: the offset and the two bytes.
-fn first_difference(due: &[u8], found: &[u8]) -> Option<(usize, u8, u8)> {
-    due.iter()
-        .zip(found)
-        .enumerate()
-        .find(|(_, (due, found))| due != found)
-        .map(|(at, (due, found))| (at, *due, *found))
 }
 
 // ---- walks
@@ -89,7 +80,7 @@ pub fn walk_input(run: &mut Run, random: &mut Random) {
     };
     let rule = if size > 1_000 {
         let count = random.between(1, 8);
-        inputs::rule_bytes(&inputs::entries(random, count, &labels, true))
+        rule_bytes(&inputs::entries(random, count, &labels, true))
     } else {
         inputs::valid_rule(random, &labels, true)
     };
@@ -233,7 +224,7 @@ fn rule_ahead(random: &mut Random, labels: &[u16]) -> Vec<u8> {
     let own = at as u16;
     entries[at].a = entries[at].a.min(own - 1);
     entries[at].b = entries[at].b.min(own - 1);
-    inputs::rule_bytes(&entries)
+    rule_bytes(&entries)
 }
 
 /// A state that passes the test, its words noise; depths and counts often at their limits.

@@ -7,7 +7,7 @@ use crate::kept::Kept;
 use crate::lent::Lent;
 use crate::random::Random;
 use crate::run::{hex, Run};
-use outside::records::{elements, read_report};
+use outside::records::{elements, read_report, rule_bytes};
 use outside::whole::evaluate;
 
 pub fn input(run: &mut Run, random: &mut Random) {
@@ -17,7 +17,7 @@ pub fn input(run: &mut Run, random: &mut Random) {
         0 => inputs::any_rule(random, &labels, false),
         _ if size > 1_000 && random.chance(7, 8) => {
             let count = random.between(1, 8);
-            inputs::rule_bytes(&inputs::entries(random, count, &labels, false))
+            rule_bytes(&inputs::entries(random, count, &labels, false))
         }
         _ => inputs::valid_rule(random, &labels, false),
     };
@@ -52,7 +52,7 @@ pub fn compare_with(run: &mut Run, random: &mut Random, rule: &[u8], report: &[u
     let input = || format!("{}\n{}\n  buffer of {words} words", hex("rule", rule), hex("report", report));
     let kept = lent_rule.untouched() && lent_report.untouched() && marks.guards_kept();
     run.same(Call::Evaluate, (due, true), (reply, kept), input);
-    run.same(Call::Evaluate, first_difference(&buffer, marks.content()), None, input);
+    run.same(Call::Evaluate, marks.first_difference(&buffer), None, input);
     let answer = [due.number, due.place, due.elements, due.selected];
     let [before, after] = [before, buffer].map(|words| in_memory(&words));
     run.keep(&Kept { call: Call::Evaluate, argument: 0, answer, rule, report, before: &before, after: &after });
@@ -62,9 +62,4 @@ pub fn compare_with(run: &mut Run, random: &mut Random, rule: &[u8], report: &[u
 /// Words as they lie in memory: the low byte first, on the machines that the archives are for.
 fn in_memory(words: &[u64]) -> Vec<u8> {
     words.iter().flat_map(|word| word.to_le_bytes()).collect()
-}
-
-/// Where two buffers differ first: the index and the two words.
-fn first_difference(due: &[u64], found: &[u64]) -> Option<(usize, u64, u64)> {
-    due.iter().zip(found).enumerate().find(|(_, (due, found))| due != found).map(|(s, (due, found))| (s, *due, *found))
 }
