@@ -4,13 +4,12 @@
 use Prim.Native.Nat.{ℕ, pred, _+_, _<_}
 use native.Mathlib.Omega.{arith}
 use mathlib.Core.Path.{_≡_, refl, sym, ap, _∙_}
-use mathlib.Core.List.{List, [], _∷_, _++_}
+use mathlib.Core.List.{List, _∷_, _++_}
 use lib.ListN.{length, getD}
-use Rattle.records.specs.Answer.{countOf}
 use Rattle.records.specs.Report.{reportAnswer, tagsOf as tagsIn}
 use Rattle.records.specs.Rule.{ruleAnswer}
 use Rattle.records.specs.Tables.{entriesOf, labelsOf, levelsOf}
-use Rattle.records.specs.Tags.{Tag, opens, closes, labels, opened}
+use Rattle.records.specs.Tags.{opens, labels, opened}
 use Rattle.records.specs.declared.answer.Answer.the-variants.{Accepted}
 use Rattle.records.proofs.TagLaws.{opened-append}
 use Rattle.grammar.specs.Bytes.{Bytes}

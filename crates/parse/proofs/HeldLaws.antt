@@ -1,7 +1,7 @@
 -- A noted tree is held in its row: filling later rows changes nothing below, so what was noted first stays. Assumes nothing.
 use Prim.Native.Nat.{ℕ, suc, _+_, _-_, _*_, _≤_, _<_}
 use native.Mathlib.Omega.{arith}
-use mathlib.Core.Path.{_≡_, refl, ap, _∙_}
+use mathlib.Core.Path.{_≡_, refl, _∙_}
 use mathlib.Core.Bool.{Bool, true, false, cond}
 use mathlib.Core.List.{List, [], _∷_}
 use lib.Dec.{leb}
@@ -11,7 +11,7 @@ use lib.Seq.{sets, length-sets, getD-set-same, getD-set-other}
 use Rattle.paths.specs.Syntax.{Test, everywhere, labelled, except, either, begins, Path, only, _then_, Step, along, along*, passing, while}
 use Rattle.paths.specs.Translation.{tableOf}
 use Rattle.paths.proofs.Count.{weightT, table-count}
-use Rattle.parse.specs.Rows.{noRows, noteRow, formOf, formEntries, testEntries, entriesT, entriesP, entriesS, noteT, noteP, noteS, Row, HeldT, HeldP, HeldS}
+use Rattle.parse.specs.Rows.{noRows, noteRow, formOf, testEntries, entriesT, entriesP, entriesS, noteT, noteP, noteS, Row, HeldT, HeldP, HeldS}
 use Rattle.parse.proofs.TreeLaws.{step-own}
 use Rattle.parse.proofs.PartLaws.{entries-few}
 

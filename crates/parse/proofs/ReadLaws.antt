@@ -12,7 +12,7 @@ use Rattle.grammar.specs.When.{Sized}
 use Rattle.paths.specs.Syntax.{Test}
 use Rattle.paths.specs.Spelling.{piecesT, textOf, Text, StopsAt}
 use Rattle.paths.specs.Answer.{TextOf, Gets, bad-size, no-text, too-many, no-room, taken}
-use Rattle.paths.proofs.Machine.{test, run, next, stopped, whole}
+use Rattle.paths.proofs.Machine.{test, run, next, stopped}
 use Rattle.paths.proofs.Ahead.{spell-ahead}
 use Rattle.paths.proofs.Count.{table-count, table-bytes}
 use Rattle.paths.proofs.Unambiguous.{text-only}
@@ -21,7 +21,7 @@ use Rattle.paths.proofs.Place.{run-halts, halts-stops, text-iff}
 use Rattle.parse.specs.declared.tree.Parsed.the-variants.{Done, Bad}
 use Rattle.parse.specs.declared.tree.Outcome.{Outcome}
 use Rattle.parse.specs.declared.tree.Outcome.the-variants as O
-use Rattle.parse.specs.Rows.{noRows, noteT}
+use Rattle.parse.specs.Rows.{noRows}
 use Rattle.parse.specs.Promises.{TestParsed, Read, TreeRead}
 
 -- ---- reading from the first byte

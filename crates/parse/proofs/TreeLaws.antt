@@ -6,7 +6,6 @@ use mathlib.Core.Bool.{Bool, true, false}
 use mathlib.Core.List.{List, [], _∷_, _++_}
 use borrow.Author.Tests.{ne-eqb}
 use lib.ListN.{length, drop}
-use Rattle.text.specs.Text.{ascii}
 use Rattle.records.specs.Kinds.{rowOf}
 use Rattle.paths.specs.Syntax.{Axis, child, parent, right, left, Test, except, either, begins, Path, only, _then_, Step, along, along*, passing, while, GoodT, GoodS}
 use Rattle.paths.specs.Spelling.{word, sign, closing, greater, slash, star, axisWord, orWord, notWord, gap, piecesT, piecesP, piecesS, signByte}

@@ -10,28 +10,14 @@ use borrow.Author.Tests.{ne-eqb, eq-eqb, eqb-true, leb-true, le-leb}
 use lib.Dec.{eqb, leb}
 use lib.ListN.{length, getD, drop, drop-of-length-le}
 use lib.Seq.{drop-cons, drop-drop}
-use Rattle.text.specs.Text.{ascii}
-use Rattle.text.specs.Decimal.{digit, decimal}
+use Rattle.text.specs.Decimal.{digit}
 use Rattle.text.proofs.DecimalLaws.{decimal-one}
-use Rattle.records.specs.Kinds.{rowOf}
-use Rattle.paths.specs.Syntax.{Axis, child, parent, right, left, everywhere, labelled, along, along*, GoodT, GoodS}
-use Rattle.paths.specs.Spelling.{axisWord, orWord, notWord, labelWord, trueWord, gap, piecesT, piecesS, signByte}
-use Rattle.paths.specs.Translation.{neighbourKind, untilKind}
-use Rattle.paths.proofs.Machine.{Expected, byte, test, lettered, alternative, number, twoDigits, oneDigit, path, axis, afterAxis, afterStep, run, next, choices, pick, ended, isWord, isDigit, stopped}
-use Rattle.paths.proofs.Ahead.{ahead, wordyT, wordyS}
-use Rattle.paths.proofs.Count.{weightT, weightS, whileWeight, recordLength}
-use Rattle.paths.proofs.Complete.{NoDigit, two-over, one-over, first-digit, second-digit, third-digit, run-axis}
+use Rattle.paths.proofs.Machine.{number, run, next, ended, isDigit}
+use Rattle.paths.proofs.Complete.{NoDigit, two-over, one-over, first-digit, second-digit, third-digit}
 use Rattle.paths.proofs.Sound.{decimal-behind}
-use Rattle.paths.proofs.Descent.{Reads, Stops, spelt, agree, word-stops, test-space, step-while}
-use Rattle.parse.specs.declared.words.Word.{Word}
+use Rattle.paths.proofs.Descent.{Stops, agree, word-stops}
 use Rattle.parse.specs.declared.words.Word.the-variants.{At, Missing}
-use Rattle.parse.specs.declared.begins.Named.{Named}
-use Rattle.parse.specs.declared.begins.Named.the-variants as N
-use Rattle.parse.specs.declared.begins.Begin.{Begin}
-use Rattle.parse.specs.declared.begins.Begin.the-variants as B
-use Rattle.parse.specs.declared.begins.Start.{Start}
-use Rattle.parse.specs.declared.begins.Start.the-variants as S
-use Rattle.parse.specs.Promises.{headOf, digitFrom, WordAt, OrAt, NumberAt, Fits, Lettered, LettersAt, BeginsAt, NamedAt, AxisAt, While, StartAt}
+use Rattle.parse.specs.Promises.{headOf, digitFrom, WordAt, NumberAt}
 
 -- ---- the byte at a cursor
 

@@ -24,7 +24,7 @@ use lib.ListN.{getD, replicate}
 use lib.Seq.{sets}
 use Rattle.paths.specs.Syntax.{Test, everywhere, labelled, except, either, begins, Path, only, _then_, Step, along, along*, passing, while}
 use Rattle.paths.specs.Translation.{neighbourKind, untilKind}
-use Rattle.paths.proofs.Count.{weightT, weightP, weightS, whileWeight, recordLength}
+use Rattle.paths.proofs.Count.{weightT, weightP, weightS, recordLength}
 
 -- A table without rows.
 abbrev pub noRows : List ℕ
@@ -41,14 +41,7 @@ formOf (along* x) = untilKind x
 formOf (passing t) = 5
 formOf (while x t) = 8 + neighbourKind x
 
--- How many entries a step has besides those of its test.
-unfoldable pub ownEntries : Step → ℕ
-ownEntries (along x) = 1
-ownEntries (along* x) = 2
-ownEntries (passing t) = 1
-ownEntries (while x t) = whileWeight (λ k. 1) x
-
--- .. and how many bytes their records have; both by the form alone, `or` and the steps.
+-- How many entries a step of a form has besides those of its test, and how many bytes their records have.
 unfoldable pub formEntries : ℕ → ℕ
 formEntries form = cond (leb form 9) 1 (cond (eqb form 14) 4 2)
 

@@ -9,10 +9,6 @@ use Rattle.parse.proofs.BeginLaws.{axis-law, axis-none}
 use borrow.Author.Needs.{needs}
 use Rattle.parse.proofs.begins.axis_at.Statement.{statement}
 use Rattle.parse.proofs.begins.axis_at.Tie as tie
-use Rattle.parse.proofs.begins.axis_at.Reads as reads
-use Rattle.parse.proofs.begins.axis_at.Lts as lts
-use Rattle.parse.proofs.words.byte_at.Reads as byte-at-reads
-use Rattle.parse.proofs.begins.named_at.Reads as named-at-reads
 
 byte-at-requires : tie.Need-byte-at-requires
 byte-at-requires c κs = search needs

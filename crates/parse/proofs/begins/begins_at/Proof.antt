@@ -6,10 +6,6 @@ use Rattle.parse.proofs.WordLaws.{front}
 use borrow.Author.Needs.{needs}
 use Rattle.parse.proofs.begins.begins_at.Statement.{statement}
 use Rattle.parse.proofs.begins.begins_at.Tie as tie
-use Rattle.parse.proofs.begins.begins_at.Reads as reads
-use Rattle.parse.proofs.begins.begins_at.Lts as lts
-use Rattle.parse.proofs.words.byte_at.Reads as byte-at-reads
-use Rattle.parse.proofs.begins.letters_at.Reads as letters-at-reads
 
 byte-at-requires : tie.Need-byte-at-requires
 byte-at-requires c κs = search needs

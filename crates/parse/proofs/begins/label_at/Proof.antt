@@ -5,10 +5,6 @@ use Rattle.parse.proofs.WordLaws.{number-within}
 use borrow.Author.Needs.{needs}
 use Rattle.parse.proofs.begins.label_at.Statement.{statement}
 use Rattle.parse.proofs.begins.label_at.Tie as tie
-use Rattle.parse.proofs.begins.label_at.Reads as reads
-use Rattle.parse.proofs.begins.label_at.Lts as lts
-use Rattle.parse.proofs.words.number_at.Reads as number-at-reads
-use Rattle.parse.proofs.words.word_at.Reads as word-at-reads
 
 -- src/begins.rt:52:26
 slice-aggregate-word-at : tie.Need-slice-aggregate-word-at

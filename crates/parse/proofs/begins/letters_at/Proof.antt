@@ -3,12 +3,6 @@ use Rattle.parse.proofs.BeginLaws.{letters-none}
 use borrow.Author.Needs.{needs}
 use Rattle.parse.proofs.begins.letters_at.Statement.{statement}
 use Rattle.parse.proofs.begins.letters_at.Tie as tie
-use Rattle.parse.proofs.begins.letters_at.Reads as reads
-use Rattle.parse.proofs.begins.letters_at.Lts as lts
-use Rattle.parse.proofs.words.byte_at.Reads as byte-at-reads
-use Rattle.parse.proofs.begins.label_at.Reads as label-at-reads
-use Rattle.parse.proofs.begins.not_at.Reads as not-at-reads
-use Rattle.parse.proofs.begins.true_at.Reads as true-at-reads
 
 byte-at-requires : tie.Need-byte-at-requires
 byte-at-requires c κs = search needs

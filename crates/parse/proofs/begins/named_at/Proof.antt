@@ -2,9 +2,6 @@ use mathlib.Core.Path.{refl}
 use borrow.Author.Needs.{needs}
 use Rattle.parse.proofs.begins.named_at.Statement.{statement}
 use Rattle.parse.proofs.begins.named_at.Tie as tie
-use Rattle.parse.proofs.begins.named_at.Reads as reads
-use Rattle.parse.proofs.begins.named_at.Lts as lts
-use Rattle.parse.proofs.words.word_at.Reads as word-at-reads
 
 word-at-requires : tie.Need-word-at-requires
 word-at-requires c κs = search needs

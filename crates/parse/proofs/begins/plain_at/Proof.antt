@@ -5,10 +5,6 @@ use Rattle.parse.proofs.WordLaws.{front}
 use borrow.Author.Needs.{needs}
 use Rattle.parse.proofs.begins.plain_at.Statement.{statement}
 use Rattle.parse.proofs.begins.plain_at.Tie as tie
-use Rattle.parse.proofs.begins.plain_at.Reads as reads
-use Rattle.parse.proofs.begins.plain_at.Lts as lts
-use Rattle.parse.proofs.begins.axis_at.Reads as axis-at-reads
-use Rattle.parse.proofs.words.byte_at.Reads as byte-at-reads
 
 -- src/begins.rt:160:11
 axis-at-requires : tie.Need-axis-at-requires

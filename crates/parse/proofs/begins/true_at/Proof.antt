@@ -3,9 +3,6 @@ use Rattle.parse.proofs.BeginLaws.{true-there, true-missing}
 use borrow.Author.Needs.{needs}
 use Rattle.parse.proofs.begins.true_at.Statement.{statement}
 use Rattle.parse.proofs.begins.true_at.Tie as tie
-use Rattle.parse.proofs.begins.true_at.Reads as reads
-use Rattle.parse.proofs.begins.true_at.Lts as lts
-use Rattle.parse.proofs.words.word_at.Reads as word-at-reads
 
 slice-aggregate-word-at : tie.Need-slice-aggregate-word-at
 slice-aggregate-word-at c = search needs

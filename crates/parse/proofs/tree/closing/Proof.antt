@@ -3,8 +3,6 @@ use Rattle.parse.proofs.PartLaws.{small-of, closing-bad, closing-done}
 use borrow.Author.Needs.{needs}
 use Rattle.parse.proofs.tree.closing.Statement.{statement}
 use Rattle.parse.proofs.tree.closing.Tie as tie
-use Rattle.parse.proofs.tree.closing.Reads as reads
-use Rattle.parse.proofs.tree.closing.Lts as lts
 
 enum-known-p : tie.Need-enum-known-p
 enum-known-p c = search needs

@@ -3,9 +3,6 @@ use Rattle.parse.proofs.PartLaws.{small-of, either-bad, either-done}
 use borrow.Author.Needs.{needs}
 use Rattle.parse.proofs.tree.either_of.Statement.{statement}
 use Rattle.parse.proofs.tree.either_of.Tie as tie
-use Rattle.parse.proofs.tree.either_of.Reads as reads
-use Rattle.parse.proofs.tree.either_of.Lts as lts
-use Rattle.parse.proofs.tree.note_row.Reads as note-row-reads
 
 -- src/tree.rt:114:21
 enum-known-p : tie.Need-enum-known-p

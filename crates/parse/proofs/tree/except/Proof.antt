@@ -3,9 +3,6 @@ use Rattle.parse.proofs.PartLaws.{small-of, except-bad, except-done}
 use borrow.Author.Needs.{needs}
 use Rattle.parse.proofs.tree.except.Statement.{statement}
 use Rattle.parse.proofs.tree.except.Tie as tie
-use Rattle.parse.proofs.tree.except.Reads as reads
-use Rattle.parse.proofs.tree.except.Lts as lts
-use Rattle.parse.proofs.tree.note_row.Reads as note-row-reads
 
 enum-known-p : tie.Need-enum-known-p
 enum-known-p c = search needs

@@ -2,9 +2,6 @@ use Rattle.parse.proofs.PartLaws.{leaf-true, leaf-label}
 use borrow.Author.Needs.{needs}
 use Rattle.parse.proofs.tree.leaf.Statement.{statement}
 use Rattle.parse.proofs.tree.leaf.Tie as tie
-use Rattle.parse.proofs.tree.leaf.Reads as reads
-use Rattle.parse.proofs.tree.leaf.Lts as lts
-use Rattle.parse.proofs.tree.note_row.Reads as note-row-reads
 
 add-note-row : tie.Need-add-note-row
 add-note-row c = search needs

@@ -3,8 +3,6 @@ use Rattle.parse.proofs.PartLaws.{row-filled, row-none}
 use borrow.Author.Needs.{needs}
 use Rattle.parse.proofs.tree.note_row.Statement.{statement}
 use Rattle.parse.proofs.tree.note_row.Tie as tie
-use Rattle.parse.proofs.tree.note_row.Reads as reads
-use Rattle.parse.proofs.tree.note_row.Lts as lts
 
 mul-at : tie.Need-mul-at
 mul-at c = search needs

@@ -2,8 +2,6 @@ use native.Mathlib.Omega.{arith}
 use Rattle.parse.proofs.PartLaws.{bytes-eight, bytes-six, bytes-twelve, bytes-thirty, bytes-fourteen}
 use Rattle.parse.proofs.tree.own_bytes.Statement.{statement}
 use Rattle.parse.proofs.tree.own_bytes.Tie as tie
-use Rattle.parse.proofs.tree.own_bytes.Reads as reads
-use Rattle.parse.proofs.tree.own_bytes.Lts as lts
 
 returns : tie.Need-returns
 returns c = bytes-thirty (c .before .args .form) (c .match .keys1)

@@ -2,8 +2,6 @@ use native.Mathlib.Omega.{arith}
 use Rattle.parse.proofs.PartLaws.{entries-one, entries-two, entries-four}
 use Rattle.parse.proofs.tree.own_entries.Statement.{statement}
 use Rattle.parse.proofs.tree.own_entries.Tie as tie
-use Rattle.parse.proofs.tree.own_entries.Reads as reads
-use Rattle.parse.proofs.tree.own_entries.Lts as lts
 
 returns : tie.Need-returns
 returns c = entries-four (c .before .args .form) (c .match .keys1)

@@ -2,9 +2,6 @@ use Rattle.parse.proofs.ReadLaws.{read-bad, read-over, read-whole}
 use borrow.Author.Needs.{needs}
 use Rattle.parse.proofs.tree.read_sized.Statement.{statement}
 use Rattle.parse.proofs.tree.read_sized.Tie as tie
-use Rattle.parse.proofs.tree.read_sized.Reads as reads
-use Rattle.parse.proofs.tree.read_sized.Lts as lts
-use Rattle.parse.proofs.tree.test.Reads as test-reads
 
 test-requires : tie.Need-test-requires
 test-requires c κs = search needs

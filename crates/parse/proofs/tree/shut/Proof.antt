@@ -3,9 +3,6 @@ use Rattle.parse.proofs.PartLaws.{shut-bad, shut-missing, shut-there}
 use borrow.Author.Needs.{needs}
 use Rattle.parse.proofs.tree.shut.Statement.{statement}
 use Rattle.parse.proofs.tree.shut.Tie as tie
-use Rattle.parse.proofs.tree.shut.Reads as reads
-use Rattle.parse.proofs.tree.shut.Lts as lts
-use Rattle.parse.proofs.words.word_at.Reads as word-at-reads
 
 enum-known-p : tie.Need-enum-known-p
 enum-known-p c = search needs

@@ -3,11 +3,6 @@ use Rattle.parse.proofs.PartLaws.{entries-few, bytes-few, small-of, ste
 use borrow.Author.Needs.{needs}
 use Rattle.parse.proofs.tree.step_of.Statement.{statement}
 use Rattle.parse.proofs.tree.step_of.Tie as tie
-use Rattle.parse.proofs.tree.step_of.Reads as reads
-use Rattle.parse.proofs.tree.step_of.Lts as lts
-use Rattle.parse.proofs.tree.note_row.Reads as note-row-reads
-use Rattle.parse.proofs.tree.own_bytes.Reads as own-bytes-reads
-use Rattle.parse.proofs.tree.own_entries.Reads as own-entries-reads
 
 -- src/tree.rt:129:21
 enum-known-p : tie.Need-enum-known-p

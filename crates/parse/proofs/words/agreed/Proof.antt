@@ -1,5 +1,5 @@
 use borrow.Author.Needs.{needs}
-use Prim.Native.Nat.{ℕ, _+_, _-_, _≤_, _<_}
+use Prim.Native.Nat.{_+_, _-_, _≤_}
 use native.Mathlib.Omega.{arith}
 use mathlib.Core.Path.{_≡_}
 use lib.ListN.{length, drop}
@@ -7,8 +7,6 @@ use Rattle.paths.proofs.Descent.{agree}
 use Rattle.parse.proofs.WordLaws.{agree-start, agree-out, agree-over, agree-differs, agree-same}
 use Rattle.parse.proofs.words.agreed.Statement.{statement}
 use Rattle.parse.proofs.words.agreed.Tie as tie
-use Rattle.parse.proofs.words.agreed.Reads as reads
-use Rattle.parse.proofs.words.agreed.Lts as lts
 
 abbrev Inv-loop : tie.InvT-loop
 Inv-loop s at word i₀ i = (i ≤ length word) × (at + i ≤ length s) × (agree word (drop at s) ≡ i + agree (drop i word) (drop (at + i) s))

@@ -3,8 +3,6 @@ use Rattle.parse.proofs.WordLaws.{head-in, head-out}
 use borrow.Author.Needs.{needs}
 use Rattle.parse.proofs.words.byte_at.Statement.{statement}
 use Rattle.parse.proofs.words.byte_at.Tie as tie
-use Rattle.parse.proofs.words.byte_at.Reads as reads
-use Rattle.parse.proofs.words.byte_at.Lts as lts
 
 shared-slice-read-result : tie.Need-shared-slice-read-result
 shared-slice-read-result c = search needs

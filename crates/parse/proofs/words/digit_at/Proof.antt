@@ -2,9 +2,6 @@ use Rattle.parse.proofs.WordLaws.{digit-law}
 use borrow.Author.Needs.{needs}
 use Rattle.parse.proofs.words.digit_at.Statement.{statement}
 use Rattle.parse.proofs.words.digit_at.Tie as tie
-use Rattle.parse.proofs.words.digit_at.Reads as reads
-use Rattle.parse.proofs.words.digit_at.Lts as lts
-use Rattle.parse.proofs.words.byte_at.Reads as byte-at-reads
 
 byte-at-requires : tie.Need-byte-at-requires
 byte-at-requires c κs = search needs

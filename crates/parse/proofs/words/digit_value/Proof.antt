@@ -3,9 +3,6 @@ use Rattle.parse.proofs.WordLaws.{digit-least}
 use borrow.Author.Needs.{needs}
 use Rattle.parse.proofs.words.digit_value.Statement.{statement}
 use Rattle.parse.proofs.words.digit_value.Tie as tie
-use Rattle.parse.proofs.words.digit_value.Reads as reads
-use Rattle.parse.proofs.words.digit_value.Lts as lts
-use Rattle.parse.proofs.words.byte_at.Reads as byte-at-reads
 
 -- src/words.rt:72:6
 byte-at-requires : tie.Need-byte-at-requires

@@ -5,10 +5,6 @@ use Rattle.parse.proofs.WordLaws.{number-none, number-one, number-two, 
 use borrow.Author.Needs.{needs}
 use Rattle.parse.proofs.words.number_at.Statement.{statement}
 use Rattle.parse.proofs.words.number_at.Tie as tie
-use Rattle.parse.proofs.words.number_at.Reads as reads
-use Rattle.parse.proofs.words.number_at.Lts as lts
-use Rattle.parse.proofs.words.digit_at.Reads as digit-at-reads
-use Rattle.parse.proofs.words.digit_value.Reads as digit-value-reads
 
 -- src/words.rt:80:9
 digit-at-requires : tie.Need-digit-at-requires

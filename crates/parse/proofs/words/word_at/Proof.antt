@@ -1,11 +1,7 @@
-use native.Mathlib.Omega.{arith}
 use Rattle.parse.proofs.WordLaws.{word-there, word-missing}
 use borrow.Author.Needs.{needs}
 use Rattle.parse.proofs.words.word_at.Statement.{statement}
 use Rattle.parse.proofs.words.word_at.Tie as tie
-use Rattle.parse.proofs.words.word_at.Reads as reads
-use Rattle.parse.proofs.words.word_at.Lts as lts
-use Rattle.parse.proofs.words.agreed.Reads as agreed-reads
 
 agreed-requires : tie.Need-agreed-requires
 agreed-requires c κs = search needs
