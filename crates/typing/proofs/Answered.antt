@@ -1,7 +1,6 @@
 -- The call: one law for each return; any two results are equal; each number is given exactly when its row applies; a refusal leaves
 -- the buffer. Assumes nothing.
-use Prim.Native.Nat.{ℕ, zero, suc, _*_, _+_, _≤_, _<_}
-use native.Mathlib.Nat.{zero-add}
+use Prim.Native.Nat.{ℕ, _*_, _≤_, _<_}
 use native.Mathlib.Omega.{arith}
 use mathlib.Core.Path.{_≡_, refl, sym, ap, _∙_}
 use mathlib.Core.Bool.{Bool, true, false, cond}

@@ -56,6 +56,10 @@ pub grows-cond : (b : Bool) {f g : Change} → Grows f → Grows g → Grows (λ
 grows-cond true p q = p
 grows-cond false p q = q
 
+-- What grows, a change that makes the same of every table does.
+pub grows-as : {f g : Change} → ((es : List Entry) → f es ≡ g es) → Grows g → Grows f
+grows-as e p = record { longer = λ es. rw (e es) (p .longer es); larger = λ es. rw (e es) (p .larger es) }
+
 -- ---- one change
 
 -- A filled buffer is as long as it was before.
@@ -78,6 +82,10 @@ asks-as {f} {g} {rule} {w} e a =
 pub puts-as : {f g : Change} {rule rule′ : List ℕ} {w w′ : Written} → ((es : List Entry) → f es ≡ g es)
     → Puts g rule w rule′ w′ → Puts f rule w rule′ w′
 puts-as e p = record { more = p .more; fills = λ before es x. rw (e es) (p .fills before es x) }
+
+-- Where there is room for a change that grows, no more than 64 entries are written.
+pub asks-few : {f : Change} {rule : List ℕ} {w : Written} → Grows f → Asks f rule w → w .entries ≤ 64
+asks-few g a = omega (arith, a .filled .entries-are, g .longer (a .es), a .few)
 
 -- The number of the last entry that is written.
 abbrev pub lastIn : Written → ℕ

@@ -2,8 +2,8 @@
 pub mod Changes
 pub mod Records
 pub mod Steps
+pub mod Trees
 pub mod Below
-pub mod Made
 pub mod Writer
 pub mod Whole
 pub mod Answered

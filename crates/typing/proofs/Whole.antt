@@ -9,33 +9,29 @@ use Rattle.grammar.specs.Rules.{ruleBytes}
 use Rattle.text.specs.Rendered.{putAt}
 use Rattle.text.proofs.PutLaws.{put-none}
 use Rattle.paths.specs.Syntax.{Test}
-use Rattle.paths.specs.Translation.{tableOf}
-use Rattle.parse.specs.Rows.{HeldT}
+use Rattle.paths.specs.Translation.{putT, tableOf}
 use Rattle.typing.specs.declared.put.Written.{Written}
-use Rattle.typing.specs.Writing.{made, Filled, Asks, Puts}
-use Rattle.typing.proofs.Made.{made-is}
+use Rattle.typing.specs.Writing.{Filled, Asks, Puts}
 
 -- Nothing is written yet.
 abbrev pub nothing : Written
 nothing = record { entries = 0; bytes = 0 }
 
+-- It fills the buffer with no record.
 none-filled : (rule : List ℕ) → Filled rule [] rule nothing
 unfolding ruleBytes
 none-filled rule = record { entries-are = refl; bytes-are = rw zero-add at (put-none rule 0) }
 
-module _ (rows rule : List ℕ) (n : ℕ) (t : Test) (x : HeldT rows t n) where
-  table-made : made rows n [] ≡ tableOf t
-  unfolding tableOf
-  table-made = made-is rows t n [] x
-
+module _ (rule : List ℕ) (t : Test) where
   -- There is room for the test's table.
-  pub whole-asks : length (tableOf t) ≤ 64 → length (ruleBytes (tableOf t)) ≤ length rule → Asks (made rows n) rule nothing
-  whole-asks few room = record { before = rule; es = []; filled = none-filled rule; few = rw table-made few; room = rw table-made room }
+  pub whole-asks : length (tableOf t) ≤ 64 → length (ruleBytes (tableOf t)) ≤ length rule → Asks (putT t) rule nothing
+  unfolding tableOf
+  whole-asks few room = record { before = rule; es = []; filled = none-filled rule; few = few; room = room }
 
   -- The rule's bytes stand at the front of the buffer, and every byte past them as it was.
-  pub whole-puts : {after : List ℕ} {w : Written} → Puts (made rows n) rule nothing after w → after ≡ sets rule 0 (ruleBytes (tableOf t))
-  unfolding putAt
-  whole-puts p = p .fills rule [] (none-filled rule) .bytes-are .bytes-are ∙ ap (λ es. sets rule 0 (ruleBytes es)) table-made
+  pub whole-puts : {after : List ℕ} {w : Written} → Puts (putT t) rule nothing after w → after ≡ sets rule 0 (ruleBytes (tableOf t))
+  unfolding putAt tableOf
+  whole-puts p = p .fills rule [] (none-filled rule) .bytes-are .bytes-are
 
 -- The same, as the rule's bytes and behind them what the buffer held.
 pub front-is : (bytes rule : List ℕ) → length bytes ≤ length rule → sets rule 0 bytes ≡ bytes ++ drop (length bytes) rule

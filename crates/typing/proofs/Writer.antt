@@ -1,252 +1,201 @@
--- What a row puts, form by form: the rows that it names stand below it, there is room for each of its parts, and once these are put, so is
--- the row. Assumes nothing.
-use Prim.Native.Nat.{ℕ, _≤_, _<_}
+-- What a row puts, form by form: there is room for each of its parts, and once these are put, so is the whole. Assumes nothing.
+use Prim.Native.Nat.{ℕ, _+_, _-_, _*_, _≤_, _<_}
 use native.Mathlib.Omega.{arith}
-use mathlib.Core.Path.{_≡_, refl, sym, ap, _∙_}
-use mathlib.Core.Bool.{Bool, true, false, _&&_}
-use mathlib.Core.List.{List}
-use borrow.Author.Tests.{ne-eqb, eq-eqb, le-leb, lt-leb, leb-true}
-use lib.Arith.{lt-of-le-ne}
-use lib.Dec.{leb}
-use Rattle.records.specs.declared.rule.Entry.{Entry}
-use Rattle.paths.specs.Translation.{entry, lastOf}
+use mathlib.Core.Path.{_≡_, refl, sym, _∙_}
+use mathlib.Core.List.{List, []}
+use Rattle.paths.specs.Syntax.{Test}
+use Rattle.paths.specs.Translation.{entry, lastOf, putT, putP, putS}
+use Rattle.parse.specs.Rows.{HeldT}
 use Rattle.typing.specs.declared.part.Part.{Part}
 use Rattle.typing.specs.declared.put.Written.{Written}
-use Rattle.typing.specs.Writing.{Change, oneMore, plainEntries, testedEntries, restEntries, partEntries, partAt, made, restMade, Held, RestHeld, Asks, Puts}
-use Rattle.typing.proofs.Changes.{Grows, grows-put, grows-then, lastIn, asks-as, puts-as, asks-last, puts-last, asks-first, asks-second, puts-both}
-use Rattle.typing.proofs.Steps.{plain-grows, tested-grows}
-use Rattle.typing.proofs.Below.{NamesTest, OfStep, Under, held-row, first-held, second-held, rest-held}
-use Rattle.typing.proofs.Made.{lastNot, lastOr, or-grows, made-by, made-grows}
+use Rattle.typing.specs.Writing.{oneMore, plainEntries, testedEntries, putSteps, HeldSteps, Asks, Puts, TestAsks, TestPuts, StepAsks, StepPuts, StepsAsk, StepsPut}
+use Rattle.typing.proofs.Changes.{grows-put, lastIn, asks-as, puts-as, asks-few, asks-last, puts-last, asks-first, asks-second, puts-both}
+use Rattle.typing.proofs.Steps.{tested-grows}
+use Rattle.typing.proofs.Trees.{lastNot, lastOr, or-grows, test-grows, path-grows, steps-grow, turned, turned-puts}
+use Rattle.typing.proofs.Below.{OfStep, Says, true-is, label-is, not-is, or-is, path-is, before-is, plain-is, tested-is, turned-held, none-before, steps-is, steps-row}
 
--- ---- the form chooses
+-- What the writer has still to do: less where more entries are written, and where as many are, less for a row below.
+abbrev pub todo : (w : Written) (n : ℕ) → ℕ
+todo w n = 256 * (64 - w .entries) + 3 * n
 
--- A number outside of 6 to 13, as the test of it.
-outside : (form : ℕ) → (6 ≤ form → 14 ≤ form) → (leb 6 form && leb form 13) ≡ false
-outside form h = go (leb 6 form) refl where
-  go : (b : Bool) → leb 6 form ≡ b → (b && leb form 13) ≡ false
-  go true e = lt-leb form 13 (h (leb-true 6 form e))
-  go false e = refl
+-- ---- a test
 
--- A number from 1 that is none of 1 to 5 is 6 or more.
-past-five : (k : ℕ) → 1 ≤ k → OfStep k → (k ≡ 5 → ⊥) → 6 ≤ k
-past-five k l h i =
-    let a : 2 ≤ k = lt-of-le-ne l (λ e. h .0 (sym e)) in
-    let b : 3 ≤ k = lt-of-le-ne a (λ e. h .1 (sym e)) in
-    let c : 4 ≤ k = lt-of-le-ne b (λ e. h .2 (sym e)) in
-    let d : 5 ≤ k = lt-of-le-ne c (λ e. h .3 (sym e)) in
-    lt-of-le-ne d (λ e. i (sym e))
+module _ {rows : List ℕ} {n : ℕ} {p : Part} (s : Says rows n p) {rule : List ℕ} {w : Written} where
+  -- true: there is room for its entry,
+  pub true-asks : TestAsks rows n rule w → p .form ≡ 1 → Asks (oneMore 1 0 0) rule w
+  true-asks (t, x, a) h = asks-as (true-is s t x h) a
 
--- A step's test and its own entries, where its argument is the last entry and the change puts the test.
-abbrev lastTested : (form : ℕ) → Change → Change
-lastTested form f rest = testedEntries form (lastOf rest) (f rest)
+  -- and once that is put, the test is.
+  pub true-puts : {rule₁ : List ℕ} {w₁ : Written} → p .form ≡ 1 → Puts (oneMore 1 0 0) rule w rule₁ w₁ → TestPuts rows n rule w rule₁ w₁
+  true-puts h q t x = puts-as (true-is s t x h) q
 
--- .. grow.
-last-tested-grows : (form : ℕ) {f : Change} → Grows f → Grows (lastTested form f)
-last-tested-grows form {f} p = grows-then (λ i. f) (testedEntries form) (λ i. p) (tested-grows form)
+  -- label N: there is room for its entry,
+  pub label-asks : TestAsks rows n rule w → p .form ≡ 2 → Asks (oneMore 2 (p .first) 0) rule w
+  label-asks (t, x, a) h = asks-as (label-is s t x h) a
 
--- What a row of each form puts.
-module _ (p : Part) (go : ℕ → Change) (es : List Entry) where
-  true-is : p .form ≡ 1 → partEntries p go es ≡ oneMore 1 0 0 es
-  unfolding partEntries
-  true-is h = rw h
+  -- and once that is put, the test is.
+  pub label-puts : {rule₁ : List ℕ} {w₁ : Written} → p .form ≡ 2 → Puts (oneMore 2 (p .first) 0) rule w rule₁ w₁ → TestPuts rows n rule w rule₁ w₁
+  label-puts h q t x = puts-as (label-is s t x h) q
 
-  label-is : p .form ≡ 2 → partEntries p go es ≡ oneMore 2 (p .first) 0 es
-  unfolding partEntries
-  label-is h = rw h
-
-  not-is : p .form ≡ 3 → partEntries p go es ≡ lastNot (go (p .first) es)
-  unfolding partEntries
-  not-is h = rw h
-
-  or-is : p .form ≡ 4 → partEntries p go es ≡ lastOr (go (p .second)) (go (p .first) es)
-  unfolding partEntries
-  or-is h = rw h
-
-  plain-is : OfStep (p .form) → 6 ≤ p .form → p .form < 14 → partEntries p go es ≡ plainEntries (p .form) (restEntries (p .second) go es)
-  unfolding partEntries
-  plain-is h l m =
-      rw (
-        ne-eqb (p .form) 1 (h .0),
-        ne-eqb (p .form) 2 (h .1),
-        ne-eqb (p .form) 3 (h .2),
-        ne-eqb (p .form) 4 (h .3),
-        le-leb 6 (p .form) l,
-        le-leb (p .form) 13 (omega arith),
-      )
-
-  tested-is : OfStep (p .form) → (6 ≤ p .form → 14 ≤ p .form)
-      → partEntries p go es ≡ lastTested (p .form) (go (p .first)) (restEntries (p .second) go es)
-  unfolding partEntries
-  tested-is h k =
-      rw (
-        ne-eqb (p .form) 1 (h .0),
-        ne-eqb (p .form) 2 (h .1),
-        ne-eqb (p .form) 3 (h .2),
-        ne-eqb (p .form) 4 (h .3),
-        outside (p .form) k,
-      )
-
--- ---- a row that was read
-
--- Row n holds a test, p is what it says, and there is room for what it puts.
-pub record Reading (rows : List ℕ) (n : ℕ) (p : Part) (rule : List ℕ) (w : Written) : Type 0 where
-  pub held : Held rows n
-  pub part-is : p ≡ partAt rows n
-  pub asks : Asks (made rows n) rule w
-
-module _ {rows : List ℕ} {n : ℕ} {p : Part} {rule : List ℕ} {w : Written} (x : Reading rows n p rule w) where
-  -- The first number of a row whose form has a test names a row below, which holds one.
-  first-below : NamesTest (p .form) → Under rows n (p .first)
-  first-below h = let e = x .part-is in rw e (first-held rows n (x .held) (rw e at h))
-
-  -- It does so for "not" and "or",
-  pub test-below : (k : ℕ) → p .form ≡ k → 3 ≤ k → k ≤ 4 → Under rows n (p .first)
-  test-below k e l m = first-below (λ i. omega (arith, e, i), λ i. omega (arith, e, i), λ i. omega (arith, e, i))
-
-  -- and for a step with a test.
-  pub tested-below : OfStep (p .form) → (6 ≤ p .form → 14 ≤ p .form) → Under rows n (p .first)
-  tested-below h k = first-below (h .0, h .1, k)
-
-  -- So does the second number for "or",
-  pub right-below : p .form ≡ 4 → Under rows n (p .second)
-  right-below h = let e = x .part-is in rw e (second-held rows n (x .held) (rw e at h))
-
-  -- and for a step that is not the last.
-  pub rest-below : OfStep (p .form) → (p .second < n) × RestHeld rows (p .second)
-  rest-below h = let e = x .part-is in rw e (rest-held rows n (x .held) (rw e at h))
-
-  -- The form of a step with a test is 5, or 14 or more.
-  pub tested-form : OfStep (p .form) → (6 ≤ p .form → 14 ≤ p .form) → (p .form ≡ 5 → ⊥) → 14 ≤ p .form
-  tested-form h k i = k (past-five (p .form) (rw (x .part-is) (held-row rows n (x .held) .1)) h i)
-
-  -- What the row puts, by what it says.
-  by-part : (es : List Entry) → made rows n es ≡ partEntries p (made rows) es
-  by-part es = made-by rows n (x .held) es ∙ ap (λ (q : Part). partEntries q (made rows) es) (sym (x .part-is))
-
-  row-asks : {f : Change} → ((es : List Entry) → partEntries p (made rows) es ≡ f es) → Asks f rule w
-  row-asks h = asks-as (λ es. by-part es ∙ h es) (x .asks)
-
-  row-puts : {f : Change} {rule′ : List ℕ} {w′ : Written} → ((es : List Entry) → partEntries p (made rows) es ≡ f es)
-      → Puts f rule w rule′ w′ → Puts (made rows n) rule w rule′ w′
-  row-puts h q = puts-as (λ es. by-part es ∙ h es) q
-
-  -- ---- true
-
-  pub true-asks : p .form ≡ 1 → Asks (oneMore 1 0 0) rule w
-  true-asks h = row-asks (λ es. true-is p (made rows) es h)
-
-  pub true-puts : {rule′ : List ℕ} {w′ : Written} → p .form ≡ 1 → Puts (oneMore 1 0 0) rule w rule′ w′ → Puts (made rows n) rule w rule′ w′
-  true-puts h q = row-puts (λ es. true-is p (made rows) es h) q
-
-  -- ---- label N
-
-  pub label-asks : p .form ≡ 2 → Asks (oneMore 2 (p .first) 0) rule w
-  label-asks h = row-asks (λ es. label-is p (made rows) es h)
-
-  pub label-puts : {rule′ : List ℕ} {w′ : Written} → p .form ≡ 2 → Puts (oneMore 2 (p .first) 0) rule w rule′ w′ → Puts (made rows n) rule w rule′ w′
-  label-puts h q = row-puts (λ es. label-is p (made rows) es h) q
-
-  -- ---- not TEST: the test, and one entry
-
+  -- not TEST: the test, which stands below, and one entry
   module _ (h : p .form ≡ 3) where
-    not-all : Asks (λ es. lastNot (made rows (p .first) es)) rule w
-    not-all = row-asks (λ es. not-is p (made rows) es h)
+    -- There is room for the test,
+    pub not-first : TestAsks rows n rule w → (p .first < n) × TestAsks rows (p .first) rule w
+    not-first (t, x, a) =
+        let i = not-is s t x h in
+        let b = asks-first (λ k. putT (i .0)) (λ k. lastNot) refl (λ k. grows-put (λ fs. entry 3 (lastOf fs) 0)) (asks-as (i .3) a) in
+        (i .1, (i .0, i .2, b))
 
-    pub not-first : Asks (made rows (p .first)) rule w
-    not-first = asks-first (λ i. made rows (p .first)) (λ i. lastNot) refl (λ i. grows-put (λ fs. entry 3 (lastOf fs) 0)) not-all
+    module _ {rule₁ : List ℕ} {w₁ : Written} (q : TestPuts rows (p .first) rule w rule₁ w₁) where
+      -- which puts an entry;
+      pub not-more : TestAsks rows n rule w → 1 ≤ w₁ .entries
+      not-more (t, x, a) = let i = not-is s t x h in omega (arith, q (i .0) (i .2) .more)
 
-    module _ {rule₁ : List ℕ} {w₁ : Written} (q : Puts (made rows (p .first)) rule w rule₁ w₁) {i : ℕ} (d : i ≡ lastIn w₁) where
-      pub not-second : Asks (oneMore 3 i 0) rule₁ w₁
-      not-second = asks-last (λ j. oneMore 3 j 0) d (asks-second (λ j. made rows (p .first)) (λ j. lastNot) refl q not-all)
+      module _ {j : ℕ} (d : j ≡ lastIn w₁) where
+        -- once it is put, for the entry,
+        pub not-second : TestAsks rows n rule w → Asks (oneMore 3 j 0) rule₁ w₁
+        not-second (t, x, a) =
+            let i = not-is s t x h in
+            asks-last (λ k. oneMore 3 k 0) d (asks-second (λ k. putT (i .0)) (λ k. lastNot) refl (q (i .0) (i .2)) (asks-as (i .3) a))
 
-      pub not-puts : {rule₂ : List ℕ} {w₂ : Written} → Puts (oneMore 3 i 0) rule₁ w₁ rule₂ w₂ → Puts (made rows n) rule w rule₂ w₂
-      not-puts r =
-          row-puts (λ es. not-is p (made rows) es h)
-          (puts-both (λ j. made rows (p .first)) (λ j. lastNot) refl q (puts-last (λ j. oneMore 3 j 0) d r))
+        -- and once that is, the whole is put.
+        pub not-puts : {rule₂ : List ℕ} {w₂ : Written} → Puts (oneMore 3 j 0) rule₁ w₁ rule₂ w₂ → TestPuts rows n rule w rule₂ w₂
+        not-puts r t x =
+            let i = not-is s t x h in
+            puts-as (i .3) (puts-both (λ k. putT (i .0)) (λ k. lastNot) refl (q (i .0) (i .2)) (puts-last (λ k. oneMore 3 k 0) d r))
 
-  -- ---- (TEST or TEST): the left test, the right test, and one entry
-
+  -- (TEST or TEST): the left test, the right test, which stand below, and one entry
   module _ (h : p .form ≡ 4) where
-    or-all : Asks (λ es. lastOr (made rows (p .second)) (made rows (p .first) es)) rule w
-    or-all = row-asks (λ es. or-is p (made rows) es h)
+    -- There is room for the left test,
+    pub or-first : TestAsks rows n rule w → (p .first < n) × TestAsks rows (p .first) rule w
+    or-first (t, x, a) =
+        let i = or-is s t x h in
+        let b = asks-first (λ k. putT (i .0)) (λ k. lastOr (putT (i .1))) refl (λ k. or-grows (test-grows (i .1))) (asks-as (i .6) a) in
+        (i .2, (i .0, i .4, b))
 
-    pub or-first : Asks (made rows (p .first)) rule w
-    or-first =
-        asks-first (λ i. made rows (p .first)) (λ i. lastOr (made rows (p .second))) refl (λ i. or-grows (made-grows rows (p .second))) or-all
+    module _ {rule₁ : List ℕ} {w₁ : Written} (q : TestPuts rows (p .first) rule w rule₁ w₁) where
+      -- once it is put, for all that is left,
+      or-left : (t : Test) (x : HeldT rows t n) → Asks (putT t) rule w → Asks (lastOr (putT (or-is s t x h .1))) rule₁ w₁
+      or-left t x a =
+          let i = or-is s t x h in asks-second (λ k. putT (i .0)) (λ k. lastOr (putT (i .1))) refl (q (i .0) (i .4)) (asks-as (i .6) a)
 
-    module _ {rule₁ : List ℕ} {w₁ : Written} (q : Puts (made rows (p .first)) rule w rule₁ w₁) where
-      or-left : Asks (lastOr (made rows (p .second))) rule₁ w₁
-      or-left = asks-second (λ i. made rows (p .first)) (λ i. lastOr (made rows (p .second))) refl q or-all
+      -- so for the right test;
+      pub or-second : TestAsks rows n rule w → (p .second < n) × (w .entries < w₁ .entries) × TestAsks rows (p .second) rule₁ w₁
+      or-second (t, x, a) =
+          let i = or-is s t x h in
+          let f = or-left t x a in
+          let b = asks-first (λ k. putT (i .1)) (λ k gs. oneMore 4 k (lastOf gs) gs) refl (λ k. grows-put (λ gs. entry 4 k (lastOf gs))) f in
+          (i .3, q (i .0) (i .4) .more, (i .1, i .5, b))
 
-      pub or-second : Asks (made rows (p .second)) rule₁ w₁
-      or-second =
-          asks-first (λ i. made rows (p .second)) (λ i gs. oneMore 4 i (lastOf gs) gs) refl (λ i. grows-put (λ gs. entry 4 i (lastOf gs))) or-left
+      module _ {rule₂ : List ℕ} {w₂ : Written} (r : TestPuts rows (p .second) rule₁ w₁ rule₂ w₂) where
+        -- both put an entry;
+        pub or-more : TestAsks rows n rule w → (1 ≤ w₁ .entries) × (1 ≤ w₂ .entries)
+        or-more (t, x, a) =
+            let i = or-is s t x h in (omega (arith, q (i .0) (i .4) .more), omega (arith, r (i .1) (i .5) .more))
 
-      module _ {rule₂ : List ℕ} {w₂ : Written} (r : Puts (made rows (p .second)) rule₁ w₁ rule₂ w₂)
-          {i j : ℕ} (d : i ≡ lastIn w₁) (e : j ≡ lastIn w₂) where
-        pub or-third : Asks (oneMore 4 i j) rule₂ w₂
-        or-third = asks-last (oneMore 4 i) e (asks-second (λ k. made rows (p .second)) (λ k gs. oneMore 4 k (lastOf gs) gs) d r or-left)
+        module _ {j k : ℕ} (d : j ≡ lastIn w₁) (e : k ≡ lastIn w₂) where
+          -- once the right one is put too, there is room for the entry,
+          pub or-third : TestAsks rows n rule w → Asks (oneMore 4 j k) rule₂ w₂
+          or-third (t, x, a) =
+              let i = or-is s t x h in
+              asks-last (oneMore 4 j) e (asks-second (λ m. putT (i .1)) (λ m gs. oneMore 4 m (lastOf gs) gs) d (r (i .1) (i .5)) (or-left t x a))
 
-        pub or-puts : {rule₃ : List ℕ} {w₃ : Written} → Puts (oneMore 4 i j) rule₂ w₂ rule₃ w₃ → Puts (made rows n) rule w rule₃ w₃
-        or-puts s =
-            row-puts (λ es. or-is p (made rows) es h)
-            (puts-both (λ k. made rows (p .first)) (λ k. lastOr (made rows (p .second))) refl q
-            (puts-both (λ k. made rows (p .second)) (λ k gs. oneMore 4 k (lastOf gs) gs) d r (puts-last (oneMore 4 i) e s)))
+          -- and once that is put, the whole is.
+          pub or-puts : {rule₃ : List ℕ} {w₃ : Written} → Puts (oneMore 4 j k) rule₂ w₂ rule₃ w₃ → TestPuts rows n rule w rule₃ w₃
+          or-puts u t x =
+              let i = or-is s t x h in
+              puts-as (i .6) (puts-both (λ m. putT (i .0)) (λ m. lastOr (putT (i .1))) refl (q (i .0) (i .4))
+              (puts-both (λ m. putT (i .1)) (λ m gs. oneMore 4 m (lastOf gs) gs) d (r (i .1) (i .5)) (puts-last (oneMore 4 j) e u)))
 
-  -- ---- AXIS and AXIS*: the rest of the path, and the step's own entries
+  -- <PATH>: "true", and the path's steps from last to first
+  module _ (h : OfStep (p .form)) where
+    -- There is room for "true",
+    pub path-first : TestAsks rows n rule w → Asks (oneMore 1 0 0) rule w
+    path-first (t, x, a) =
+        let i = path-is s t x h in asks-first (λ k. oneMore 1 0 0) (λ k. putP (i .0)) refl (λ k. path-grows (i .0)) (asks-as (i .2) a)
 
-  module _ (h : OfStep (p .form)) (l : 6 ≤ p .form) (m : p .form < 14) where
-    plain-all : Asks (λ es. plainEntries (p .form) (restMade rows (p .second) es)) rule w
-    plain-all = row-asks (λ es. plain-is p (made rows) es h l m)
+    module _ {rule₁ : List ℕ} {w₁ : Written} (q : Puts (oneMore 1 0 0) rule w rule₁ w₁) (l : n ≤ 64) where
+      -- once it is put, for the steps,
+      pub path-second : TestAsks rows n rule w → StepsAsk rows n rule₁ w₁
+      unfolding HeldSteps putSteps
+      path-second (t, x, a) =
+          let i = path-is s t x h in
+          let b = asks-second (λ k. oneMore 1 0 0) (λ k. putP (i .0)) refl q (asks-as (i .2) a) in
+          (turned (i .0) [], turned-held rows (i .0) [] n 0 l (i .1) refl, asks-as (λ es. sym (turned-puts (i .0) [] es)) b)
 
-    pub plain-first : Asks (restMade rows (p .second)) rule w
-    plain-first = asks-first (λ i. restMade rows (p .second)) (λ i. plainEntries (p .form)) refl (λ i. plain-grows (p .form)) plain-all
+      -- and once these are, the whole is put.
+      pub path-puts : {rule₂ : List ℕ} {w₂ : Written} → StepsPut rows n rule₁ w₁ rule₂ w₂ → TestPuts rows n rule w rule₂ w₂
+      unfolding HeldSteps putSteps
+      path-puts r t x =
+          let i = path-is s t x h in
+          let b = r (turned (i .0) []) (turned-held rows (i .0) [] n 0 l (i .1) refl) in
+          puts-as (i .2) (puts-both (λ k. oneMore 1 0 0) (λ k. putP (i .0)) refl q (puts-as (λ es. sym (turned-puts (i .0) [] es)) b))
 
-    module _ {rule₁ : List ℕ} {w₁ : Written} (q : Puts (restMade rows (p .second)) rule w rule₁ w₁) where
-      pub plain-second : Asks (plainEntries (p .form)) rule₁ w₁
-      plain-second = asks-second (λ i. restMade rows (p .second)) (λ i. plainEntries (p .form)) refl q plain-all
+  -- ---- a step
 
-      pub plain-puts : {rule₂ : List ℕ} {w₂ : Written} → Puts (plainEntries (p .form)) rule₁ w₁ rule₂ w₂ → Puts (made rows n) rule w rule₂ w₂
-      plain-puts r =
-          row-puts (λ es. plain-is p (made rows) es h l m)
-          (puts-both (λ i. restMade rows (p .second)) (λ i. plainEntries (p .form)) refl q r)
+  -- AXIS and AXIS*: the step's own entries
+  module _ (l : 6 ≤ p .form) (m : p .form < 14) where
+    -- There is room for them,
+    pub plain-asks : StepAsks rows n rule w → Asks (plainEntries (p .form)) rule w
+    plain-asks (st, b, x, a) = asks-as (plain-is s st b x l m) a
 
-  -- ---- ?TEST and (AXIS?TEST)*: the rest of the path, the test, and the step's own entries
+    -- and once they are put, the step is.
+    pub plain-puts : {rule₁ : List ℕ} {w₁ : Written} → Puts (plainEntries (p .form)) rule w rule₁ w₁ → StepPuts rows n rule w rule₁ w₁
+    plain-puts q st b x = puts-as (plain-is s st b x l m) q
 
-  module _ (h : OfStep (p .form)) (k : 6 ≤ p .form → 14 ≤ p .form) where
-    tested-all : Asks (λ es. lastTested (p .form) (made rows (p .first)) (restMade rows (p .second) es)) rule w
-    tested-all = row-asks (λ es. tested-is p (made rows) es h k)
+  -- ?TEST and (AXIS?TEST)*: the test, which stands below, and the step's own entries
+  module _ (k : 6 ≤ p .form → 14 ≤ p .form) where
+    -- There is room for the test,
+    pub tested-first : StepAsks rows n rule w → (p .first < n) × TestAsks rows (p .first) rule w
+    tested-first (st, b, x, a) =
+        let i = tested-is s st b x k in
+        let c = asks-first (λ j. putT (i .0)) (testedEntries (p .form)) refl (tested-grows (p .form)) (asks-as (i .4) a) in
+        (i .1, (i .0, i .2, c))
 
-    pub tested-first : Asks (restMade rows (p .second)) rule w
-    tested-first =
-        asks-first (λ i. restMade rows (p .second)) (λ i. lastTested (p .form) (made rows (p .first))) refl
-        (λ i. last-tested-grows (p .form) (made-grows rows (p .first))) tested-all
+    module _ {rule₁ : List ℕ} {w₁ : Written} (q : TestPuts rows (p .first) rule w rule₁ w₁) {j : ℕ} (d : j ≡ lastIn w) where
+      -- once it is put, for the step's own entries, whose form is one of theirs,
+      pub tested-second : StepAsks rows n rule w
+          → (1 ≤ w₁ .entries) × ((p .form ≡ 5 → ⊥) → 14 ≤ p .form) × Asks (testedEntries (p .form) j) rule₁ w₁
+      tested-second (st, b, x, a) =
+          let i = tested-is s st b x k in
+          let v = q (i .0) (i .2) in
+          (omega (arith, v .more), i .3, asks-second (λ j. putT (i .0)) (testedEntries (p .form)) d v (asks-as (i .4) a))
 
-    module _ {rule₁ : List ℕ} {w₁ : Written} (q : Puts (restMade rows (p .second)) rule w rule₁ w₁) where
-      tested-left : Asks (lastTested (p .form) (made rows (p .first))) rule₁ w₁
-      tested-left = asks-second (λ i. restMade rows (p .second)) (λ i. lastTested (p .form) (made rows (p .first))) refl q tested-all
+      -- and once these are, the step is put.
+      pub tested-puts : {rule₂ : List ℕ} {w₂ : Written} → Puts (testedEntries (p .form) j) rule₁ w₁ rule₂ w₂ → StepPuts rows n rule w rule₂ w₂
+      tested-puts r st b x =
+          let i = tested-is s st b x k in
+          puts-as (i .4) (puts-both (λ j. putT (i .0)) (testedEntries (p .form)) d (q (i .0) (i .2)) r)
 
-      pub tested-second : Asks (made rows (p .first)) rule₁ w₁
-      tested-second = asks-first (λ i. made rows (p .first)) (testedEntries (p .form)) refl (tested-grows (p .form)) tested-left
+-- ---- a step and those before it
 
-      module _ {rule₂ : List ℕ} {w₂ : Written} (r : Puts (made rows (p .first)) rule₁ w₁ rule₂ w₂) {i : ℕ} (d : i ≡ lastIn w₁) where
-        pub tested-third : Asks (testedEntries (p .form) i) rule₂ w₂
-        tested-third = asks-second (λ j. made rows (p .first)) (testedEntries (p .form)) d r tested-left
+-- There is room for the step,
+pub steps-first : (rows : List ℕ) (n : ℕ) {rule : List ℕ} {w : Written} → 1 ≤ n → StepsAsk rows n rule w → (n ≤ 64) × StepAsks rows n rule w
+steps-first rows n l (sts, x, a) =
+    let i = steps-is rows sts n l x in
+    let b = asks-first (λ k. putS (i .0)) (λ k. putSteps (i .2)) refl (λ k. steps-grow (i .2)) (asks-as (i .6) a) in
+    (i .3, (i .0, i .1, i .4, b))
 
-        pub tested-puts : {rule₃ : List ℕ} {w₃ : Written} → Puts (testedEntries (p .form) i) rule₂ w₂ rule₃ w₃ → Puts (made rows n) rule w rule₃ w₃
-        tested-puts s =
-            row-puts (λ es. tested-is p (made rows) es h k)
-            (puts-both (λ j. restMade rows (p .second)) (λ j. lastTested (p .form) (made rows (p .first))) refl q
-            (puts-both (λ j. made rows (p .first)) (testedEntries (p .form)) d r s))
+module _ {rows : List ℕ} {n : ℕ} {p : Part} (s : Says rows n p) (l : 1 ≤ n)
+    {rule rule₁ : List ℕ} {w w₁ : Written} (q : StepPuts rows n rule w rule₁ w₁) where
+  -- once it is put, for those before it: it put an entry, and none past 64,
+  pub steps-second : StepsAsk rows n rule w → (w .entries < w₁ .entries) × (w₁ .entries ≤ 64) × (p .second ≤ 64) × StepsAsk rows (p .second) rule₁ w₁
+  steps-second (sts, x, a) =
+      let i = steps-is rows sts n l x in
+      let v = q (i .0) (i .1) (i .4) in
+      let b = asks-second (λ k. putS (i .0)) (λ k. putSteps (i .2)) refl v (asks-as (i .6) a) in
+      rw (before-is s (i .0) (i .1) (i .4)) (v .more, asks-few (steps-grow (i .2)) b, steps-row rows (i .2) (i .1) (i .5), (i .2, i .5, b))
 
--- ---- the rest of a path
+  -- and where there is none, it is all;
+  pub steps-last : p .second ≡ 0 → StepsPut rows n rule w rule₁ w₁
+  steps-last h sts x =
+      let i = steps-is rows sts n l x in
+      let e = before-is s (i .0) (i .1) (i .4) in
+      puts-as (λ es. i .6 es ∙ none-before rows (i .2) (i .1) (sym e ∙ h) (i .5) (putS (i .0) es)) (q (i .0) (i .1) (i .4))
 
--- Behind the last step: "true".
-pub rest-none : (rows : List ℕ) (n : ℕ) → n ≡ 0 → (es : List Entry) → restMade rows n es ≡ oneMore 1 0 0 es
-unfolding restEntries
-rest-none rows n h es = rw (eq-eqb n 0 h)
-
--- Behind another: what its row puts.
-pub rest-some : (rows : List ℕ) (n : ℕ) → (n ≡ 0 → ⊥) → (es : List Entry) → restMade rows n es ≡ made rows n es
-unfolding restEntries
-rest-some rows n h es = rw (ne-eqb n 0 h)
+  -- else all are put once those before it are.
+  pub steps-puts : {rule₂ : List ℕ} {w₂ : Written} → StepsPut rows (p .second) rule₁ w₁ rule₂ w₂ → StepsPut rows n rule w rule₂ w₂
+  steps-puts r sts x =
+      let i = steps-is rows sts n l x in
+      let u = rw (before-is s (i .0) (i .1) (i .4)) at r in
+      puts-as (i .6) (puts-both (λ k. putS (i .0)) (λ k. putSteps (i .2)) refl (q (i .0) (i .1) (i .4)) (u (i .2) (i .5)))

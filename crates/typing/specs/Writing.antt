@@ -1,18 +1,18 @@
--- What the writer's functions ask and promise: what it puts by the numbers of a row alone, when the buffer is filled with a table's
--- records, and changes of a table that a buffer has room for. Nothing here has to be believed: the promise of `write_rule` cites none of it.
--- Laws: proofs/Changes.antt, proofs/Made.antt. Assumes nothing.
-use Prim.Native.Nat.{ℕ, zero, suc, _-_, _*_, _≤_, _<_}
+-- What the writer's functions ask and promise: the entries that they put, when the buffer is filled with a table's records, and changes
+-- of a table that a buffer has room for. Nothing here has to be believed: the promise of `write_rule` cites none of it.
+-- Laws: proofs/Changes.antt, proofs/Below.antt. Assumes nothing.
+use Prim.Native.Nat.{ℕ, _-_, _*_, _≤_, _<_}
 use mathlib.Core.Path.{_≡_}
-use mathlib.Core.Bool.{cond, _&&_}
-use mathlib.Core.List.{List}
+use mathlib.Core.Bool.{cond}
+use mathlib.Core.List.{List, [], _∷_}
 use lib.Dec.{eqb, leb}
 use lib.ListN.{length, getD}
 use Rattle.records.specs.declared.rule.Entry.{Entry}
 use Rattle.grammar.specs.Rules.{bodyOf, ruleBytes}
 use Rattle.text.specs.Rendered.{Put}
-use Rattle.paths.specs.Syntax.{Test}
-use Rattle.paths.specs.Translation.{entry, lastOf, put, putDown}
-use Rattle.parse.specs.Rows.{HeldT}
+use Rattle.paths.specs.Syntax.{Test, Step}
+use Rattle.paths.specs.Translation.{entry, lastOf, put, putDown, putT, putS}
+use Rattle.parse.specs.Rows.{HeldT, HeldS}
 use Rattle.typing.specs.declared.part.Part.{Part}
 use Rattle.typing.specs.declared.put.Written.{Written}
 
@@ -49,46 +49,21 @@ unfoldable pub testedEntries : (form argument : ℕ) → Change
 testedEntries form argument es =
     cond (eqb form 5) (put es (entry 5 argument (lastOf es))) (cond (eqb form 14) (downEntries argument es) (besideEntries form argument es))
 
--- The rest of a path, where `go` tells what a row puts.
-unfoldable pub restEntries : (n : ℕ) → (ℕ → Change) → Change
-restEntries n go es = cond (eqb n 0) (put es (entry 1 0 0)) (go n es)
+-- What steps put that are told from the last of a path to the first: the entries of each stand behind those of the one after it.
+unfoldable pub putSteps : List Step → Change
+putSteps [] es = es
+putSteps (st ∷ sts) es = putSteps sts (putS st es)
 
--- What a row puts, where `go` tells it of the rows below.
-unfoldable pub partEntries : Part → (ℕ → Change) → Change
-partEntries p go es =
-    cond (eqb (p .form) 1) (put es (entry 1 0 0))
-    (cond (eqb (p .form) 2) (put es (entry 2 (p .first) 0))
-    (cond (eqb (p .form) 3) (let fs = go (p .first) es in put fs (entry 3 (lastOf fs) 0))
-    (cond (eqb (p .form) 4) (let fs = go (p .first) es in let gs = go (p .second) fs in put gs (entry 4 (lastOf fs) (lastOf gs)))
-    (let rest = restEntries (p .second) go es in
-    cond (leb 6 (p .form) && leb (p .form) 13) (plainEntries (p .form) rest) (testedEntries (p .form) (lastOf rest) (go (p .first) rest))))))
+-- ---- what is asked and promised
 
 -- Row n.
 abbrev pub partAt : List ℕ → (n : ℕ) → Part
 partAt rows n = record { form = getD rows (3 * n - 3) 0; first = getD rows (3 * n - 2) 0; second = getD rows (3 * n - 1) 0 }
 
--- What row n puts; `enough` is n or more.
-unfoldable pub fromRows : List ℕ → (enough n : ℕ) → Change
-fromRows rows zero n es = es
-fromRows rows (suc k) n es = partEntries (partAt rows n) (fromRows rows k) es
-
--- The same, with just enough.
-abbrev pub made : List ℕ → (n : ℕ) → Change
-made rows n = fromRows rows n n
-
--- What the rest of a path from row n puts; row 0 is no row, but the path's end.
-abbrev pub restMade : List ℕ → (n : ℕ) → Change
-restMade rows n = restEntries n (made rows)
-
--- ---- what is asked and promised
-
--- Some test stands in row n.
-abbrev pub Held : List ℕ → (n : ℕ) → Type 0
-Held rows n = (t : Test) × HeldT rows t n
-
--- .. if n is a row at all.
-abbrev pub RestHeld : List ℕ → (n : ℕ) → Type 0
-RestHeld rows n = (n ≡ 0 → ⊥) → Held rows n
+-- Steps stand in rows, from row n back to the first of their path: each row names that of the step before it, and the first names 0.
+unfoldable pub HeldSteps : List ℕ → List Step → (n : ℕ) → Type 0
+HeldSteps rows [] n = n ≡ 0
+HeldSteps rows (st ∷ sts) n = (b : ℕ) × (n ≤ 64) × HeldS rows st n b × HeldSteps rows sts b
 
 -- The rule that was `before` has been filled with a table's records.
 pub record Filled (before : List ℕ) (es : List Entry) (rule : List ℕ) (w : Written) : Type 0 where
@@ -107,3 +82,25 @@ pub record Asks (f : Change) (rule : List ℕ) (w : Written) : Type 0 where
 pub record Puts (f : Change) (rule : List ℕ) (w : Written) (rule′ : List ℕ) (w′ : Written) : Type 0 where
   pub more : w .entries < w′ .entries
   pub fills : (before : List ℕ) (es : List Entry) → Filled before es rule w → Filled before (f es) rule′ w′
+
+-- A test stands in row n, and there is room for its entries.
+abbrev pub TestAsks : (rows : List ℕ) (n : ℕ) (rule : List ℕ) (w : Written) → Type 0
+TestAsks rows n rule w = (t : Test) × HeldT rows t n × Asks (putT t) rule w
+
+-- Whatever test stands in row n, its entries have been put.
+abbrev pub TestPuts : (rows : List ℕ) (n : ℕ) (rule : List ℕ) (w : Written) (rule′ : List ℕ) (w′ : Written) → Type 0
+TestPuts rows n rule w rule′ w′ = (t : Test) → HeldT rows t n → Puts (putT t) rule w rule′ w′
+
+-- The same of a step,
+abbrev pub StepAsks : (rows : List ℕ) (n : ℕ) (rule : List ℕ) (w : Written) → Type 0
+StepAsks rows n rule w = (st : Step) × (b : ℕ) × HeldS rows st n b × Asks (putS st) rule w
+
+abbrev pub StepPuts : (rows : List ℕ) (n : ℕ) (rule : List ℕ) (w : Written) (rule′ : List ℕ) (w′ : Written) → Type 0
+StepPuts rows n rule w rule′ w′ = (st : Step) (b : ℕ) → HeldS rows st n b → Puts (putS st) rule w rule′ w′
+
+-- and of a step and those before it.
+abbrev pub StepsAsk : (rows : List ℕ) (n : ℕ) (rule : List ℕ) (w : Written) → Type 0
+StepsAsk rows n rule w = (sts : List Step) × HeldSteps rows sts n × Asks (putSteps sts) rule w
+
+abbrev pub StepsPut : (rows : List ℕ) (n : ℕ) (rule : List ℕ) (w : Written) (rule′ : List ℕ) (w′ : Written) → Type 0
+StepsPut rows n rule w rule′ w′ = (sts : List Step) → HeldSteps rows sts n → Puts (putSteps sts) rule w rule′ w′

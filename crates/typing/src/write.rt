@@ -1,5 +1,6 @@
-// The writer: it follows the rows of a text's tree and puts the entries. The rows that a row names
-// stand below it, so it ends, and no call stands more than 128 deep.
+// The writer: it follows the rows of a text's tree and puts the entries. A test stands in a row below
+// that of the part it belongs to, and every step puts an entry or more, so it ends, and no call stands
+// more than 128 deep.
 ghost use mathlib.Core.Path.{_≡_};
 ghost use Prim.Native.Nat.{_≤_};
 ghost use lib.ListN.{length};
@@ -8,7 +9,7 @@ ghost use Rattle.grammar.specs.Rules.{ruleBytes};
 ghost use Rattle.paths.specs.Syntax.{Test};
 ghost use Rattle.paths.specs.Translation.{tableOf};
 ghost use Rattle.parse.specs.Rows.{HeldT};
-ghost use Rattle.typing.specs.Writing.{made, restMade, Held, RestHeld, Asks, Puts};
+ghost use Rattle.typing.specs.Writing.{TestAsks, TestPuts, StepAsks, StepPuts, StepsAsk, StepsPut};
 use crate::part::part_at;
 use crate::put::Written;
 use crate::put::last;
@@ -16,11 +17,11 @@ use crate::put::put_record;
 use crate::step::put_plain;
 use crate::step::put_tested;
 
-// The entries of the part of the text in row n, behind what is written. Of a step, the rest of its
-// path is written first, for the step's argument is what that stands for.
+// The entries of the test in row n, behind what is written: the argument or arguments, and the whole;
+// of a path its closing "true", and its steps.
 fn write(rows: &[u16; 192], n: u16, rule: &mut [u8], w: Written) -> Written
-    requires { ⌜ (n ≤ 64) × Held (now rows) n × Asks (made (now rows) n) (now rule) w ⌝ }
-    ensures { λ r. ⌜ Puts (made (now (rows .entry)) n) (now (rule .entry)) w (now (rule .exit)) r ⌝ }
+    requires { ⌜ (n ≤ 64) × TestAsks (now rows) n (now rule) w ⌝ }
+    ensures { λ r. ⌜ TestPuts (now (rows .entry)) n (now (rule .entry)) w (now (rule .exit)) r ⌝ }
 {
     let part = part_at(rows, n);
     let form = part.form;
@@ -36,27 +37,41 @@ fn write(rows: &[u16; 192], n: u16, rule: &mut [u8], w: Written) -> Written
             let right = write(rows, part.second, rule, left);
             put_record(rule, right, 4, last(left), last(right))
         }
-        6..=13 => {
-            let rest = write_rest(rows, part.second, rule, w);
-            put_plain(rule, rest, form)
-        }
         _ => {
-            let rest = write_rest(rows, part.second, rule, w);
-            let test = write(rows, part.first, rule, rest);
-            put_tested(rule, test, form, last(rest))
+            let end = put_record(rule, w, 1, 0, 0);
+            write_steps(rows, n, rule, end)
         }
     }
 }
 
-// The entries of the rest of a path; where a step is the last, those of its end: "true".
-fn write_rest(rows: &[u16; 192], n: u16, rule: &mut [u8], w: Written) -> Written
-    requires { ⌜ (n ≤ 64) × RestHeld (now rows) n × Asks (restMade (now rows) n) (now rule) w ⌝ }
-    ensures { λ r. ⌜ Puts (restMade (now (rows .entry)) n) (now (rule .entry)) w (now (rule .exit)) r ⌝ }
+// The entries of the step in row n and then of the steps before it in its path. The argument of each
+// is the last entry so far.
+fn write_steps(rows: &[u16; 192], n: u16, rule: &mut [u8], w: Written) -> Written
+    requires { ⌜ (1 ≤ n) × (1 ≤ w .entries) × StepsAsk (now rows) n (now rule) w ⌝ }
+    ensures { λ r. ⌜ StepsPut (now (rows .entry)) n (now (rule .entry)) w (now (rule .exit)) r ⌝ }
 {
-    if n == 0 {
-        return put_record(rule, w, 1, 0, 0);
+    let own = write_step(rows, n, rule, w);
+    let part = part_at(rows, n);
+    if part.second == 0 {
+        return own;
     }
-    write(rows, n, rule, w)
+    write_steps(rows, part.second, rule, own)
+}
+
+// The entries of the step in row n alone: of its test, if it has one, and its own.
+fn write_step(rows: &[u16; 192], n: u16, rule: &mut [u8], w: Written) -> Written
+    requires { ⌜ (n ≤ 64) × (1 ≤ w .entries) × StepAsks (now rows) n (now rule) w ⌝ }
+    ensures { λ r. ⌜ StepPuts (now (rows .entry)) n (now (rule .entry)) w (now (rule .exit)) r ⌝ }
+{
+    let part = part_at(rows, n);
+    let form = part.form;
+    match form {
+        6..=13 => put_plain(rule, w, form),
+        _ => {
+            let test = write(rows, part.first, rule, w);
+            put_tested(rule, test, form, last(w))
+        }
+    }
 }
 
 // The rule of the test in row n at the front of the buffer, which has room for it. The bytes past

@@ -11,7 +11,7 @@ write-requires : tie.Need-write-requires
 write-requires c κs =
     let s = c .before .before in
     let p = s .pre in
-    (p .0, (p .1 .0, p .1 .1), whole-asks (s .args .rows .now) (s .args .rule .now) (s .args .n) (p .1 .0) (p .1 .1) (p .1 .2) (p .1 .3))
+    (p .0, (p .1 .0, p .1 .1, whole-asks (s .args .rule .now) (p .1 .0) (p .1 .2) (p .1 .3)))
 
 same-length : tie.Need-same-length
 same-length c = search needs
@@ -20,7 +20,7 @@ returns : tie.Need-returns
 returns c =
     let x1 = c .before .before in
     let s = x1 .before .before .before in
-    λ t x. whole-puts (s .args .rows .now) (s .args .rule .now) (s .args .n) t x (x1 .write .ensures)
+    λ t x. whole-puts (s .args .rule .now) t (x1 .write .ensures t x)
 
 pub write-rule-spec : {M : Type 1} → statement M
 write-rule-spec = tie.close (tie.spec cast-write write-requires same-length returns)
