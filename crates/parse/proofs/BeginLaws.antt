@@ -1,10 +1,12 @@
 -- Laws of what begins at a cursor: words, tests of one word, axes and steps. One for each return. Assumes nothing.
+use mir.Val.{boolByte}
 use Prim.Native.Nat.{ℕ, zero, suc, _+_, _≤_}
 use native.Mathlib.Omega.{arith}
-use mathlib.Core.Path.{_≡_, refl, ap, _∙_}
+use mathlib.Core.Path.{_≡_, refl, ap, _∙_, sym}
 use mathlib.Core.Bool.{Bool, true, false}
 use mathlib.Core.List.{List, [], _∷_, _++_}
-use borrow.Author.Tests.{ne-eqb}
+use borrow.Author.Tests.{ne-eqb, eqb-true, eqb-false}
+use lib.Dec.{eqb}
 use lib.ListN.{length, drop}
 use Rattle.text.specs.Text.{ascii}
 use Rattle.text.specs.Decimal.{decimal}
@@ -22,7 +24,7 @@ use Rattle.parse.specs.declared.begins.Named.the-variants as N
 use Rattle.parse.specs.declared.begins.Begin.{Begin}
 use Rattle.parse.specs.declared.begins.Begin.the-variants as B
 use Rattle.parse.specs.declared.begins.Start.the-variants as S
-use Rattle.parse.specs.Promises.{headOf, WordAt, OrAt, NumberAt, Lettered, LettersAt, BeginsAt, NamedAt, AxisAt, While, StartAt, noteTest}
+use Rattle.parse.specs.Promises.{headOf, WordAt, OrAt, NumberAt, Lettered, LettersAt, BeginsAt, NamedAt, AxisAt, While, Opens, StartAt, noteTest}
 use Rattle.parse.specs.Rows.{formOf, leafTree, testEntries, testBytes}
 use Rattle.parse.proofs.WordLaws.{front}
 
@@ -296,3 +298,30 @@ module _ (s : List ℕ) (at : ℕ) (h : headOf (drop at s) ≡ 40) where
           is-form = omega (arith, i);
         },
       )
+
+-- ---- an axis behind a bracket, or without one
+
+module _ (s : List ℕ) (at : ℕ) (w : Bool) (h : Opens w s at) (r : Named) (x : AxisAt s (at + boolByte w) r) where
+  pub bracketed : w ≡ true → (headOf (drop at s) ≡ 40) × AxisAt s (at + 1) r
+  bracketed e = (rw e at h, rw e at x)
+
+  pub unbracketed : w ≡ false → (headOf (drop at s) ≡ 63 → ⊥) × (headOf (drop at s) ≡ 40 → ⊥) × AxisAt s at r
+  unbracketed e =
+      let z : at + 0 ≡ at = omega arith in
+      let y : AxisAt s (at + 0) r = rw e at x in
+      let g : Opens false s at = rw e at h in (g .0, g .1, rw z at y)
+
+pub axis-inside : (s : List ℕ) (at : ℕ) (w : Bool) → Opens w s at → at ≤ length s → at + boolByte w ≤ length s
+axis-inside s at true h l = omega (arith, front s at 40 h (omega arith) .0)
+axis-inside s at false h l = omega arith
+
+pub axis-missing : (s : List ℕ) (at : ℕ) (w : Bool) → Opens w s at → (p : ℕ) → AxisAt s (at + boolByte w) (N.None p) → StartAt s at (S.Stray p)
+axis-missing s at true h p x = while-missing s at h p x
+axis-missing s at false h p x = let z : at + 0 ≡ at = omega arith in plain-missing s at (h .0) (h .1) p (rw z at x)
+
+-- What start_at knows where it looks for an axis.
+pub opens-so : (s : List ℕ) (at b : ℕ) → b ≡ headOf (drop at s) → (b ≡ 63 → ⊥) → Opens (eqb b 40) s at
+opens-so s at b e f = go (eqb b 40) refl where
+  go : (w : Bool) → eqb b 40 ≡ w → Opens w s at
+  go true i = sym e ∙ eqb-true b 40 i
+  go false i = (λ g. f (e ∙ g), λ g. eqb-false b 40 i (e ∙ g))

@@ -194,6 +194,11 @@ pub record PlainIs (s r : List ℕ) (behind : Bool) (form : ℕ) : Type 0 where
   pub no-bytes : 0 ≡ testBytes tree
   pub no-rows : (k : ℕ) (rows : List ℕ) → rows ≡ noteTest tree k rows
 
+-- What is known before an axis is looked for: a bracket stands at the cursor; or neither a bracket nor `?`.
+abbrev pub Opens : (bracket : Bool) (s : List ℕ) (at : ℕ) → Type 0
+Opens true s at = headOf (drop at s) ≡ 40
+Opens false s at = (headOf (drop at s) ≡ 63 → ⊥) × (headOf (drop at s) ≡ 40 → ⊥)
+
 abbrev pub StartAt : (s : List ℕ) (at : ℕ) → Start → Type 0
 StartAt s at (S.Plain e v form) = (at + 4 ≤ e) × (e ≤ length s) × StepReads (drop at s) v (drop e s) × PlainIs (drop at s) (drop e s) v form
 StartAt s at S.Test = headOf (drop at s) ≡ 63

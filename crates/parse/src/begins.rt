@@ -2,7 +2,7 @@
 ghost use mathlib.Core.Path.{_≡_};
 ghost use Prim.Native.Nat.{_≤_};
 ghost use lib.ListN.{length, drop};
-ghost use Rattle.parse.specs.Promises.{headOf, OrAt, LettersAt, BeginsAt, NamedAt, AxisAt, StartAt};
+ghost use Rattle.parse.specs.Promises.{headOf, OrAt, LettersAt, BeginsAt, NamedAt, AxisAt, Opens, StartAt};
 use crate::words::Word;
 use crate::words::byte_at;
 use crate::words::number_at;
@@ -152,36 +152,26 @@ fn axis_at(s: &[u8], at: usize) -> Named
     Named::None(at)
 }
 
-// AXIS or AXIS*
-fn plain_at(s: &[u8], at: usize) -> Start
-    requires { ⌜ (at ≤ length (now s)) × (headOf (drop at (now s)) ≡ 63 → ⊥) × (headOf (drop at (now s)) ≡ 40 → ⊥) ⌝ }
+// AXIS, AXIS* or `(AXIS?`: the axis stands behind the bracket where there is one. Both in one function,
+// so that the words are compared in one place.
+fn axis_step(s: &[u8], at: usize, bracket: bool) -> Start
+    requires { ⌜ (at ≤ length (now s)) × Opens bracket (now s) at ⌝ }
     ensures { λ r. ⌜ StartAt (now (s .entry)) at r ⌝ }
 {
-    match axis_at(s, at) {
+    match axis_at(s, at + bracket as usize) {
         Named::None(p) => Start::Stray(p),
         Named::Axis(e, kind) => {
-            if byte_at(s, e) == 42 {
-                Start::Plain(e + 1, false, kind + 4)
-            } else {
-                Start::Plain(e, true, kind)
+            let next = byte_at(s, e);
+            if bracket {
+                if next == 63 {
+                    return Start::While(e + 1, kind + 8);
+                }
+                return Start::Stray(e);
             }
-        }
-    }
-}
-
-// (AXIS?
-fn while_at(s: &[u8], at: usize) -> Start
-    requires { ⌜ (at ≤ length (now s)) × (headOf (drop at (now s)) ≡ 40) ⌝ }
-    ensures { λ r. ⌜ StartAt (now (s .entry)) at r ⌝ }
-{
-    match axis_at(s, at + 1) {
-        Named::None(p) => Start::Stray(p),
-        Named::Axis(e, kind) => {
-            if byte_at(s, e) == 63 {
-                Start::While(e + 1, kind + 8)
-            } else {
-                Start::Stray(e)
+            if next == 42 {
+                return Start::Plain(e + 1, false, kind + 4);
             }
+            Start::Plain(e, true, kind)
         }
     }
 }
@@ -194,8 +184,5 @@ pub(crate) fn start_at(s: &[u8], at: usize) -> Start
     if b == 63 {
         return Start::Test;
     }
-    if b == 40 {
-        return while_at(s, at);
-    }
-    plain_at(s, at)
+    axis_step(s, at, b == 40)
 }

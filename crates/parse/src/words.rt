@@ -25,16 +25,21 @@ pub(crate) fn byte_at(s: &[u8], at: usize) -> u8
     if at < s.len() { s[at] } else { 0 }
 }
 
+// The smaller of two numbers.
+fn least(a: usize, b: usize) -> usize
+    ensures { λ r. ⌜ (r ≤ a) × (r ≤ b) × (r < b → a ≤ r) ⌝ }
+{
+    if a < b { a } else { b }
+}
+
 // How many bytes of a word stand at the cursor.
 fn agreed(s: &[u8], at: usize, word: &[u8]) -> usize
     requires { ⌜ at ≤ length (now s) ⌝ }
     ensures { λ r. ⌜ (r ≡ agree (now (word .entry)) (drop at (now (s .entry)))) × (r ≤ length (now (word .entry))) × (at + r ≤ length (now (s .entry))) ⌝ }
 {
+    let most = least(s.len() - at, word.len());
     let mut i: usize = 0;
-    while i < word.len() {
-        if at + i >= s.len() {
-            return i;
-        }
+    while i < most {
         if s[at + i] != word[i] {
             return i;
         }

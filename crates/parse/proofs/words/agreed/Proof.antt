@@ -1,51 +1,62 @@
 use borrow.Author.Needs.{needs}
-use Prim.Native.Nat.{_+_, _-_, _≤_}
+use Prim.Native.Nat.{_+_, _-_, _≤_, _<_}
 use native.Mathlib.Omega.{arith}
 use mathlib.Core.Path.{_≡_}
 use lib.ListN.{length, drop}
 use Rattle.paths.proofs.Descent.{agree}
-use Rattle.parse.proofs.WordLaws.{agree-start, agree-out, agree-over, agree-differs, agree-same}
+use Rattle.parse.proofs.WordLaws.{agree-start, agree-ended, agree-differs, agree-same}
 use Rattle.parse.proofs.words.agreed.Statement.{statement}
 use Rattle.parse.proofs.words.agreed.Tie as tie
 
 abbrev Inv-loop : tie.InvT-loop
-Inv-loop s at word i₀ i = (i ≤ length word) × (at + i ≤ length s) × (agree word (drop at s) ≡ i + agree (drop i word) (drop (at + i) s))
+Inv-loop s at word most i₀ i = (i ≤ most) × (most ≤ length word) × (at + most ≤ length s) × (most < length word → length s ≤ at + most) × (agree word (drop at s) ≡ i + agree (drop i word) (drop (at + i) s))
 
 abbrev μ-loop : tie.MeasureT-loop
-μ-loop s at word i₀ i = length word - i
+μ-loop s at word most i₀ i = most - i
 
+-- src/words.rt:40:22
+sub-least : tie.Need-sub-least Inv-loop μ-loop
+sub-least c = omega (arith, c .before .before .pre)
+
+-- src/words.rt:40:9
+least-requires : tie.Need-least-requires Inv-loop μ-loop
+least-requires c κs = search needs
+
+-- src/words.rt:42:5
 loop-holds : tie.Need-loop-holds Inv-loop μ-loop
-loop-holds c = (omega arith, omega arith, agree-start (c .args .word .now) (c .args .s .now) (c .args .at))
+loop-holds c = (omega arith, c .least .ensures .1, omega (arith, c .before .before .before .pre, c .least .ensures .0), (λ l. omega (arith, c .least .ensures .2 l, c .before .before .before .pre)), agree-start (c .before .before .before .args .word .now) (c .before .before .before .args .s .now) (c .before .before .before .args .at))
 
+-- src/words.rt:43:14
 add-if1 : tie.Need-add-if1 Inv-loop μ-loop
 add-if1 c = search needs
 
+-- src/words.rt:43:12
+shared-slice-read-if1 : tie.Need-shared-slice-read-if1 Inv-loop μ-loop
+shared-slice-read-if1 c = search needs
+
+-- src/words.rt:43:25
+shared-slice-read-if1-2 : tie.Need-shared-slice-read-if1-2 Inv-loop μ-loop
+shared-slice-read-if1-2 c = search needs
+
+-- src/words.rt:44:13
 returns : tie.Need-returns Inv-loop μ-loop
-returns c = (omega (arith, c .before .before .loop .inv, agree-out (c .before .before .before .args .word .now) (c .before .before .before .args .s .now) (c .before .before .before .args .at) (c .before .before .loop .i) (omega arith)), omega (arith, c .before .before .loop .inv), omega (arith, c .before .before .loop .inv))
+returns c = (omega (arith, c .before .before .before .before .loop .inv, agree-differs (c .before .before .before .before .before .before .before .before .args .word .now) (c .before .before .before .before .before .before .before .before .args .s .now) (c .before .before .before .before .before .before .before .before .args .at) (c .before .before .before .before .loop .i) (omega (arith, c .before .before .before .before .loop .inv)) (omega (arith, c .before .before .before .before .loop .inv)) (c .if1 .taken)), omega (arith, c .before .before .before .before .loop .inv), omega (arith, c .before .before .before .before .loop .inv))
 
-add-if2 : tie.Need-add-if2 Inv-loop μ-loop
-add-if2 c = search needs
-
-shared-slice-read-if2 : tie.Need-shared-slice-read-if2 Inv-loop μ-loop
-shared-slice-read-if2 c = search needs
-
-shared-slice-read-if2-2 : tie.Need-shared-slice-read-if2-2 Inv-loop μ-loop
-shared-slice-read-if2-2 c = search needs
-
-returns-2 : tie.Need-returns-2 Inv-loop μ-loop
-returns-2 c = (omega (arith, c .before .before .before .before .before .loop .inv, agree-differs (c .before .before .before .before .before .before .args .word .now) (c .before .before .before .before .before .before .args .s .now) (c .before .before .before .before .before .before .args .at) (c .before .before .before .before .before .loop .i) (omega arith) (omega arith) (c .if2 .taken)), omega (arith, c .before .before .before .before .before .loop .inv), omega (arith, c .before .before .before .before .before .loop .inv))
-
+-- src/words.rt:46:9
 add-i : tie.Need-add-i Inv-loop μ-loop
 add-i c = search needs
 
+-- src/words.rt:42:5
 loop-less : tie.Need-loop-less Inv-loop μ-loop
 loop-less c = search needs
 
+-- src/words.rt:42:5
 loop-again : tie.Need-loop-again Inv-loop μ-loop
-loop-again c = (omega arith, omega arith, omega (arith, c .before .before .before .before .before .loop .inv, agree-same (c .before .before .before .before .before .before .args .word .now) (c .before .before .before .before .before .before .args .s .now) (c .before .before .before .before .before .before .args .at) (c .before .before .before .before .before .loop .i) (omega arith) (omega arith) (c .if2 .left)))
+loop-again c = (omega arith, c .before .before .before .before .loop .inv .1, c .before .before .before .before .loop .inv .2, c .before .before .before .before .loop .inv .3, omega (arith, c .before .before .before .before .loop .inv .4, agree-same (c .before .before .before .before .before .before .before .before .args .word .now) (c .before .before .before .before .before .before .before .before .args .s .now) (c .before .before .before .before .before .before .before .before .args .at) (c .before .before .before .before .loop .i) (omega (arith, c .before .before .before .before .loop .inv)) (omega (arith, c .before .before .before .before .loop .inv)) (c .if1 .left)))
 
-returns-3 : tie.Need-returns-3 Inv-loop μ-loop
-returns-3 c = (omega (arith, c .before .loop .inv, agree-over (c .before .before .args .word .now) (c .before .before .args .s .now) (c .before .before .args .at) (c .before .loop .i) (omega arith)), omega (arith, c .before .loop .inv), omega (arith, c .before .loop .inv))
+-- src/words.rt:36:1
+returns-2 : tie.Need-returns-2 Inv-loop μ-loop
+returns-2 c = (omega (arith, c .before .loop .inv .4, agree-ended (c .before .before .before .before .before .args .word .now) (c .before .before .before .before .before .args .s .now) (c .before .before .before .before .before .args .at) (c .before .loop .i) (λ l. omega (arith, c .before .loop .inv, c .before .loop .inv .3 (omega (arith, c .before .loop .inv))))), omega (arith, c .before .loop .inv), omega (arith, c .before .loop .inv))
 
 pub agreed-spec : {M : Type 1} → statement M
 agreed-spec =
@@ -53,14 +64,14 @@ agreed-spec =
     (tie.spec
     Inv-loop
     μ-loop
+    sub-least
+    least-requires
     loop-holds
     add-if1
+    shared-slice-read-if1
+    shared-slice-read-if1-2
     returns
-    add-if2
-    shared-slice-read-if2
-    shared-slice-read-if2-2
-    returns-2
     add-i
     loop-less
     loop-again
-    returns-3)
+    returns-2)
