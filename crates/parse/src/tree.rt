@@ -31,12 +31,6 @@ pub enum Outcome {
     Stopped(usize),
 }
 
-// The outcome, and the rows of the text's tree, all zero where there is none.
-pub struct Tree {
-    pub outcome: Outcome,
-    pub rows: [u16; 192],
-}
-
 // ---- rows
 
 // How many entries a form has besides those of its parts.
@@ -264,25 +258,19 @@ fn read_sized(s: &[u8], rows: &mut [u16; 192]) -> Outcome
     }
 }
 
-// Reads a byte string as a text.
-pub fn read_tree(s: &[u8]) -> Tree
-    ensures { λ r. ⌜ TreeRead (now (s .entry)) (r .outcome) (r .rows) ⌝ }
+// Reads a byte string as a text, and leaves the rows of its tree, all zero where there is none.
+pub fn read_tree(s: &[u8], rows: &mut [u16; 192]) -> Outcome
+    ensures { λ r. ⌜ TreeRead (now (s .entry)) r (now (rows .exit)) ⌝ }
 {
-    let mut rows = [0u16; 192];
+    *rows = [0u16; 192];
     if (s.len() == 0) | (1024 < s.len()) {
-        return Tree {
-            outcome: Outcome::Stopped(0),
-            rows: rows,
-        };
+        return Outcome::Stopped(0);
     }
-    match read_sized(s, &mut rows) {
-        Outcome::Text(n, b) => Tree {
-            outcome: Outcome::Text(n, b),
-            rows: rows,
-        },
-        Outcome::Stopped(p) => Tree {
-            outcome: Outcome::Stopped(p),
-            rows: [0u16; 192],
-        },
+    match read_sized(s, rows) {
+        Outcome::Text(n, b) => Outcome::Text(n, b),
+        Outcome::Stopped(p) => {
+            *rows = [0u16; 192];
+            Outcome::Stopped(p)
+        }
     }
 }

@@ -33,9 +33,8 @@ fn refused(number: u32, place: u32) -> PathReply
 pub extern "C" fn pz_read_path(text: &[u8], rule: &mut [u8]) -> PathReply
     ensures { λ r. ⌜ Typed (now (text .entry)) (now (rule .entry)) r (now (rule .exit)) ⌝ }
 {
-    let tree = read_tree(text);
-    let outcome = tree.outcome;
-    match outcome {
+    let mut rows = [0u16; 192];
+    match read_tree(text, &mut rows) {
         Outcome::Stopped(p) => refused(13, p as u32),
         Outcome::Text(entries, bytes) => {
             if ENTRIES < entries {
@@ -44,7 +43,6 @@ pub extern "C" fn pz_read_path(text: &[u8], rule: &mut [u8]) -> PathReply
             if rule.len() < bytes {
                 return refused(9, 0);
             }
-            let rows = tree.rows;
             write_rule(&rows, entries, rule);
             PathReply {
                 number: 0,
