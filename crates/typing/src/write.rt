@@ -17,6 +17,9 @@ use crate::put::put_record;
 use crate::step::put_plain;
 use crate::step::put_tested;
 
+// What was written is handed on field by field: handed on as it came, it would be copied as a whole
+// right after its fields were stored one by one, and the processor waits for that.
+
 // The entries of the test in row n, behind what is written: the argument or arguments, and the whole;
 // of a path its closing "true", and its steps.
 fn write(rows: &[u16; 192], n: u16, rule: &mut [u8], w: Written) -> Written
@@ -29,11 +32,27 @@ fn write(rows: &[u16; 192], n: u16, rule: &mut [u8], w: Written) -> Written
         1 => put_record(rule, w, 1, 0, 0),
         2 => put_record(rule, w, 2, part.first, 0),
         3 => {
-            let test = write(rows, part.first, rule, w);
+            let test = write(
+                rows,
+                part.first,
+                rule,
+                Written {
+                    entries: w.entries,
+                    bytes: w.bytes,
+                },
+            );
             put_record(rule, test, 3, last(test), 0)
         }
         4 => {
-            let left = write(rows, part.first, rule, w);
+            let left = write(
+                rows,
+                part.first,
+                rule,
+                Written {
+                    entries: w.entries,
+                    bytes: w.bytes,
+                },
+            );
             let right = write(rows, part.second, rule, left);
             put_record(rule, right, 4, last(left), last(right))
         }
@@ -68,7 +87,15 @@ fn write_step(rows: &[u16; 192], n: u16, rule: &mut [u8], w: Written) -> Written
     match form {
         6..=13 => put_plain(rule, w, form),
         _ => {
-            let test = write(rows, part.first, rule, w);
+            let test = write(
+                rows,
+                part.first,
+                rule,
+                Written {
+                    entries: w.entries,
+                    bytes: w.bytes,
+                },
+            );
             put_tested(rule, test, form, last(w))
         }
     }
