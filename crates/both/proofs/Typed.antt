@@ -30,7 +30,7 @@ use Rattle.paths.specs.Translation.{lastOf, tableOf}
 use Rattle.paths.specs.Answer.{entriesMost, TextOf, bytesFor, taken}
 use Rattle.paths.proofs.Answer.{gets-only}
 use Rattle.paths.proofs.Unambiguous.{text-only}
-use Rattle.paths.proofs.Selects.{table-selects, pred-lt}
+use Rattle.paths.proofs.Agrees.{table-selects, pred-lt}
 use Rattle.paths.proofs.Rule.{table-rule, table-taken}
 use Rattle.paths.proofs.BackOnly.{table-back}
 use Rattle.typing.specs.Typed.{Typed}

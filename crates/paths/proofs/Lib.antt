@@ -1,7 +1,7 @@
 -- The laws of rules typed as paths. Read in this order.
 pub mod Holds
 pub mod While
-pub mod Selects
+pub mod Agrees
 pub mod Pairs
 pub mod Rule
 pub mod BackOnly

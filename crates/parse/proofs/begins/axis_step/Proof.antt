@@ -6,63 +6,48 @@ use Rattle.parse.proofs.WordLaws.{front}
 use Rattle.parse.proofs.begins.axis_step.Statement.{statement}
 use Rattle.parse.proofs.begins.axis_step.Tie as tie
 
--- src/begins.rt:161:27
 cast-axis-at : tie.Need-cast-axis-at
 cast-axis-at c = search needs
 
--- src/begins.rt:161:22
 add-axis-at : tie.Need-add-axis-at
 add-axis-at c = omega (arith, c .before .good, axis-inside (c .before .args .s .now) (c .before .args .at) (c .before .args .bracket) (c .before .pre .1) (c .before .pre .0))
 
--- src/begins.rt:161:11
 axis-at-requires : tie.Need-axis-at-requires
 axis-at-requires c κs = axis-inside (c .before .args .s .now) (c .before .args .at) (c .before .args .bracket) (c .before .pre .1) (c .before .pre .0)
 
--- src/begins.rt:162:21
 enum-known-p : tie.Need-enum-known-p
 enum-known-p c = search needs
 
--- src/begins.rt:163:21
 enum-known-e : tie.Need-enum-known-e
 enum-known-e c = search needs
 
--- src/begins.rt:164:17
 byte-at-requires : tie.Need-byte-at-requires
 byte-at-requires c κs = search needs
 
--- src/begins.rt:167:41
 add-t14 : tie.Need-add-t14
 add-t14 c = omega (arith, c .before .before .before .before .before .before .before .before .good, front (c .before .before .before .before .before .before .before .before .args .s .now) (c .before .before .before .before .e .given .0 .0) 63 (sym (c .before .before .byte-at .ensures) ∙ c .if2 .taken) (omega arith) .0)
 
--- src/begins.rt:167:48
 add-t15 : tie.Need-add-t15
 add-t15 c = omega (arith, axis-kind (c .before .before .before .before .before .before .before .before .args .s .now) _ _ _ (rw (c .before .before .before .before .e .given .1) at (c .before .before .before .before .before .before .axis-at .ensures)))
 
--- src/begins.rt:167:21
 returns : tie.Need-returns
 returns c = let y = bracketed (c .before .before .before .before .before .before .before .before .args .s .now) (c .before .before .before .before .before .before .before .before .args .at) (c .before .before .before .before .before .before .before .before .args .bracket) (c .before .before .before .before .before .before .before .before .pre .1) (c .before .before .before .before .before .before .axis-at .result) (c .before .before .before .before .before .before .axis-at .ensures) (c .before .if1 .taken) in while-there (c .before .before .before .before .before .before .before .before .args .s .now) (c .before .before .before .before .before .before .before .before .args .at) (y .0) _ _ (rw (c .before .before .before .before .e .given .1) at (y .1)) (sym (c .before .before .byte-at .ensures) ∙ c .if2 .taken)
 
--- src/begins.rt:169:17
 returns-2 : tie.Need-returns-2
 returns-2 c = let y = bracketed (c .before .before .before .before .before .before .before .before .args .s .now) (c .before .before .before .before .before .before .before .before .args .at) (c .before .before .before .before .before .before .before .before .args .bracket) (c .before .before .before .before .before .before .before .before .pre .1) (c .before .before .before .before .before .before .axis-at .result) (c .before .before .before .before .before .before .axis-at .ensures) (c .before .if1 .taken) in while-stray (c .before .before .before .before .before .before .before .before .args .s .now) (c .before .before .before .before .before .before .before .before .args .at) (y .0) _ _ (rw (c .before .before .before .before .e .given .1) at (y .1)) (λ h. c .if2 .left (c .before .before .byte-at .ensures ∙ h))
 
--- src/begins.rt:172:37
 add-t16 : tie.Need-add-t16
 add-t16 c = omega (arith, c .before .before .before .before .before .before .before .before .good, front (c .before .before .before .before .before .before .before .before .args .s .now) (c .before .before .before .before .e .given .0 .0) 42 (sym (c .before .before .byte-at .ensures) ∙ c .if3 .taken) (omega arith) .0)
 
--- src/begins.rt:172:51
 add-t17 : tie.Need-add-t17
 add-t17 c = omega (arith, axis-kind (c .before .before .before .before .before .before .before .before .args .s .now) _ _ _ (rw (c .before .before .before .before .e .given .1) at (c .before .before .before .before .before .before .axis-at .ensures)))
 
--- src/begins.rt:172:17
 returns-3 : tie.Need-returns-3
 returns-3 c = let y = unbracketed (c .before .before .before .before .before .before .before .before .args .s .now) (c .before .before .before .before .before .before .before .before .args .at) (c .before .before .before .before .before .before .before .before .args .bracket) (c .before .before .before .before .before .before .before .before .pre .1) (c .before .before .before .before .before .before .axis-at .result) (c .before .before .before .before .before .before .axis-at .ensures) (c .before .if1 .left) in plain-star (c .before .before .before .before .before .before .before .before .args .s .now) (c .before .before .before .before .before .before .before .before .args .at) (y .0) (y .1) _ _ (rw (c .before .before .before .before .e .given .1) at (y .2)) (sym (c .before .before .byte-at .ensures) ∙ c .if3 .taken)
 
--- src/begins.rt:157:1
 returns-4 : tie.Need-returns-4
 returns-4 c = axis-missing (c .before .before .before .before .before .args .s .now) (c .before .before .before .before .before .args .at) (c .before .before .before .before .before .args .bracket) (c .before .before .before .before .before .pre .1) _ (rw (c .before .p .given .1) at (c .before .before .before .axis-at .ensures))
 
--- src/begins.rt:157:1
 returns-5 : tie.Need-returns-5
 returns-5 c = let y = unbracketed (c .before .before .before .before .before .before .before .before .args .s .now) (c .before .before .before .before .before .before .before .before .args .at) (c .before .before .before .before .before .before .before .before .args .bracket) (c .before .before .before .before .before .before .before .before .pre .1) (c .before .before .before .before .before .before .axis-at .result) (c .before .before .before .before .before .before .axis-at .ensures) (c .before .if1 .left) in plain-there (c .before .before .before .before .before .before .before .before .args .s .now) (c .before .before .before .before .before .before .before .before .args .at) (y .0) (y .1) _ _ (rw (c .before .before .before .before .e .given .1) at (y .2)) (λ h. c .if3 .left (c .before .before .byte-at .ensures ∙ h))
 

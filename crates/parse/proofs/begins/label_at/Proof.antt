@@ -6,41 +6,32 @@ use borrow.Author.Needs.{needs}
 use Rattle.parse.proofs.begins.label_at.Statement.{statement}
 use Rattle.parse.proofs.begins.label_at.Tie as tie
 
--- src/begins.rt:52:26
 slice-aggregate-word-at : tie.Need-slice-aggregate-word-at
 slice-aggregate-word-at c = search needs
 
--- src/begins.rt:52:11
 word-at-requires : tie.Need-word-at-requires
 word-at-requires c κs = search needs
 
--- src/begins.rt:53:23
 enum-known-p : tie.Need-enum-known-p
 enum-known-p c = search needs
 
--- src/begins.rt:54:18
 enum-known-e : tie.Need-enum-known-e
 enum-known-e c = search needs
 
--- src/begins.rt:55:17
 number-at-requires : tie.Need-number-at-requires
 number-at-requires c κs = rw (c .before .e .given .1) at (c .before .before .before .word-at .ensures) .1
 
--- src/begins.rt:59:29
 add-t13 : tie.Need-add-t13
 add-t13 c = omega (arith, c .before .before .before .before .before .before .before .before .before .before .good, number-within (c .before .before .before .before .before .before .before .before .before .before .args .s .now) (c .before .before .before .before .before .e .given .0 .0) (c .before .before .before .number-at .result .digits) (c .before .before .before .number-at .result .value) (rw (c .before .before .before .before .before .e .given .1) at (c .before .before .before .before .before .before .before .word-at .ensures) .1) (c .before .before .before .number-at .ensures))
 
--- src/begins.rt:48:1
 returns : tie.Need-returns
 unfolding ascii
 returns c = label-missing (c .before .before .before .before .before .before .args .s .now) (c .before .before .before .before .before .before .args .at) _ (c .before .before .before .before .before .before .pre .1) (rw (c .before .p .given .1) at (c .before .before .before .word-at .ensures))
 
--- src/begins.rt:48:1
 returns-2 : tie.Need-returns-2
 unfolding ascii
 returns-2 c = label-none (c .before .before .before .before .before .before .before .before .before .args .s .now) (c .before .before .before .before .before .before .before .before .before .args .at) _ (c .before .before .number-at .result .digits) (c .before .before .number-at .result .value) (rw (c .before .before .before .before .e .given .1) at (c .before .before .before .before .before .before .word-at .ensures)) (c .if1 .taken) (c .before .before .number-at .ensures)
 
--- src/begins.rt:48:1
 returns-3 : tie.Need-returns-3
 unfolding ascii
 returns-3 c = label-there (c .before .before .before .before .before .before .before .before .before .before .args .s .now) (c .before .before .before .before .before .before .before .before .before .before .args .at) _ (c .before .before .before .number-at .result .digits) (c .before .before .before .number-at .result .value) (rw (c .before .before .before .before .before .e .given .1) at (c .before .before .before .before .before .before .before .word-at .ensures)) (c .before .if1 .left) (c .before .before .before .number-at .ensures)

@@ -4,19 +4,15 @@ use Rattle.parse.proofs.BeginLaws.{opens-so}
 use Rattle.parse.proofs.begins.start_at.Statement.{statement}
 use Rattle.parse.proofs.begins.start_at.Tie as tie
 
--- src/begins.rt:183:9
 byte-at-requires : tie.Need-byte-at-requires
 byte-at-requires c κs = search needs
 
--- src/begins.rt:185:9
 returns : tie.Need-returns
 returns c = sym (c .before .byte-at .ensures) ∙ c .if1 .taken
 
--- src/begins.rt:187:5
 axis-step-requires : tie.Need-axis-step-requires
 axis-step-requires c κs = (c .before .before .before .pre, opens-so (c .before .before .before .args .s .now) (c .before .before .before .args .at) (c .before .byte-at .result) (c .before .byte-at .ensures) (c .if1 .left))
 
--- src/begins.rt:179:1
 returns-2 : tie.Need-returns-2
 returns-2 c = c .axis-step .ensures
 

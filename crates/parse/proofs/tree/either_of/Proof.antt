@@ -4,51 +4,39 @@ use borrow.Author.Needs.{needs}
 use Rattle.parse.proofs.tree.either_of.Statement.{statement}
 use Rattle.parse.proofs.tree.either_of.Tie as tie
 
--- src/tree.rt:114:21
 enum-known-p : tie.Need-enum-known-p
 enum-known-p c = search needs
 
--- src/tree.rt:115:22
 enum-known-p-2 : tie.Need-enum-known-p-2
 enum-known-p-2 c = search needs
 
--- src/tree.rt:116:28
 add-note-row : tie.Need-add-note-row
 add-note-row c = omega (arith, c .before .before .before .before .pre, small-of _ _ _ _ _ (c .before .before .p2 .given .1) (c .before .before .before .before .pre .0))
 
--- src/tree.rt:116:28
 add-note-row-2 : tie.Need-add-note-row-2
 add-note-row-2 c = omega (arith, c .before .before .before .before .pre, small-of _ _ _ _ _ (c .before .before .p2 .given .1) (c .before .before .before .before .pre .0))
 
--- src/tree.rt:116:45
 add-note-row-3 : tie.Need-add-note-row-3
 add-note-row-3 c = omega (arith, c .before .before .before .before .pre, small-of _ _ _ _ _ (c .before .before .p2 .given .1) (c .before .before .before .before .pre .0))
 
--- src/tree.rt:116:13
 note-row-requires : tie.Need-note-row-requires
 note-row-requires c κs = search needs
 
--- src/tree.rt:117:32
 add-t14 : tie.Need-add-t14
 add-t14 c = omega (arith, c .before .before .before .before .before .pre, small-of _ _ _ _ _ (c .before .before .before .p2 .given .1) (c .before .before .before .before .before .pre .0))
 
--- src/tree.rt:117:32
 add-t16 : tie.Need-add-t16
 add-t16 c = omega (arith, c .before .before .before .before .before .pre, small-of _ _ _ _ _ (c .before .before .before .p2 .given .1) (c .before .before .before .before .before .pre .0))
 
--- src/tree.rt:117:43
 add-t15 : tie.Need-add-t15
 add-t15 c = omega (arith, c .before .before .before .before .before .pre, small-of _ _ _ _ _ (c .before .before .before .p2 .given .1) (c .before .before .before .before .before .pre .0))
 
--- src/tree.rt:117:43
 add-t17 : tie.Need-add-t17
 add-t17 c = omega (arith, c .before .before .before .before .before .pre, small-of _ _ _ _ _ (c .before .before .before .p2 .given .1) (c .before .before .before .before .before .pre .0))
 
--- src/tree.rt:109:1
 returns : tie.Need-returns
 returns c = either-bad _ _ (c .before .p .given .1) _ _ _ _ _
 
--- src/tree.rt:109:1
 returns-2 : tie.Need-returns-2
 returns-2 c = either-done _ _ _ _ _ (c .before .before .before .p2 .given .1) _ _ _ _ _ (c .note-row .ensures)
 

@@ -6,27 +6,21 @@ use Rattle.parse.proofs.tree.read_tree.Reads as reads
 use Rattle.parse.proofs.tree.read_tree.Lts as lts
 use Rattle.parse.proofs.tree.read_sized.Reads as read-sized-reads
 
--- src/tree.rt:267:9
 returns : tie.Need-returns
 returns c = tree-size (c .before .before .before .args .s .now) (c .if1 .taken)
 
--- src/tree.rt:269:11
 read-sized-requires : tie.Need-read-sized-requires
 read-sized-requires c κs = sized-so (c .before .before .before .before .args .s .now) (c .before .if1 .left) .few
 
--- src/tree.rt:270:23
 enum-known-n : tie.Need-enum-known-n
 enum-known-n c = search needs
 
--- src/tree.rt:271:26
 enum-known-p : tie.Need-enum-known-p
 enum-known-p c = search needs
 
--- src/tree.rt:262:1
 returns-2 : tie.Need-returns-2
 returns-2 c = tree-text (c .before .before .before .before .before .before .before .before .args .s .now) (sized-so (c .before .before .before .before .before .before .before .before .args .s .now) (c .before .before .before .before .before .if1 .left)) (c .before .before .before .read-sized .result) _ (c .before .before .before .read-sized .ensures) (c .before .n .given .0 .0) (c .before .n .given .0 .1 .0) (c .before .n .given .1)
 
--- src/tree.rt:262:1
 returns-3 : tie.Need-returns-3
 returns-3 c = tree-stopped (c .before .before .before .before .before .before .before .before .before .args .s .now) (sized-so (c .before .before .before .before .before .before .before .before .before .args .s .now) (c .before .before .before .before .before .before .if1 .left)) (c .before .before .before .before .read-sized .result) _ (c .before .before .before .before .read-sized .ensures) (c .before .before .p .given .0 .0) (c .before .before .p .given .1)
 

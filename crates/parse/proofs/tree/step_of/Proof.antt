@@ -4,51 +4,39 @@ use borrow.Author.Needs.{needs}
 use Rattle.parse.proofs.tree.step_of.Statement.{statement}
 use Rattle.parse.proofs.tree.step_of.Tie as tie
 
--- src/tree.rt:129:21
 enum-known-p : tie.Need-enum-known-p
 enum-known-p c = search needs
 
--- src/tree.rt:130:22
 enum-known-p-2 : tie.Need-enum-known-p-2
 enum-known-p-2 c = search needs
 
--- src/tree.rt:131:17
 own-entries-requires : tie.Need-own-entries-requires
 own-entries-requires c κs = search needs
 
--- src/tree.rt:132:28
 add-note-row : tie.Need-add-note-row
 add-note-row c = omega (arith, c .before .before .before .before .before .pre, c .before .own-entries .ensures, entries-few (c .before .before .before .before .before .args .form), small-of _ _ _ _ _ (c .before .before .before .p2 .given .1) (c .before .before .before .before .before .pre .0))
 
--- src/tree.rt:132:28
 add-note-row-2 : tie.Need-add-note-row-2
 add-note-row-2 c = omega (arith, c .before .before .before .before .before .pre, c .before .own-entries .ensures, entries-few (c .before .before .before .before .before .args .form), small-of _ _ _ _ _ (c .before .before .before .p2 .given .1) (c .before .before .before .before .before .pre .0))
 
--- src/tree.rt:132:47
 add-note-row-3 : tie.Need-add-note-row-3
 add-note-row-3 c = omega (arith, c .before .before .before .before .before .pre, c .before .own-entries .ensures, entries-few (c .before .before .before .before .before .args .form), small-of _ _ _ _ _ (c .before .before .before .p2 .given .1) (c .before .before .before .before .before .pre .0))
 
--- src/tree.rt:132:13
 note-row-requires : tie.Need-note-row-requires
 note-row-requires c κs = omega (arith, c .before .own-entries .ensures, entries-few (c .before .before .before .before .before .args .form))
 
--- src/tree.rt:133:32
 add-t15 : tie.Need-add-t15
 add-t15 c = omega (arith, c .before .before .before .before .before .before .pre, c .before .before .own-entries .ensures, entries-few (c .before .before .before .before .before .before .args .form), small-of _ _ _ _ _ (c .before .before .before .before .p2 .given .1) (c .before .before .before .before .before .before .pre .0))
 
--- src/tree.rt:133:45
 own-bytes-requires : tie.Need-own-bytes-requires
 own-bytes-requires c κs = search needs
 
--- src/tree.rt:133:41
 add-t16 : tie.Need-add-t16
 add-t16 c = omega (arith, c .before .before .before .before .before .before .before .pre, c .own-bytes .ensures, entries-few (c .before .before .before .before .before .before .before .args .form), bytes-few (c .before .before .before .before .before .before .before .args .form), small-of _ _ _ _ _ (c .before .before .before .before .before .p2 .given .1) (c .before .before .before .before .before .before .before .pre .0))
 
--- src/tree.rt:124:1
 returns : tie.Need-returns
 returns c = step-bad _ _ (c .before .p .given .1) _ _ _ _ _
 
--- src/tree.rt:124:1
 returns-2 : tie.Need-returns-2
 returns-2 c = step-done _ _ _ _ _ (c .before .before .before .before .before .p2 .given .1) _ _ _ _ _ _ _ (c .before .before .before .own-entries .ensures) (c .own-bytes .ensures) (c .before .note-row .ensures)
 

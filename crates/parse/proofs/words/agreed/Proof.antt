@@ -14,47 +14,36 @@ Inv-loop s at word most i₀ i = (i ≤ most) × (most ≤ length word) × (at +
 abbrev μ-loop : tie.MeasureT-loop
 μ-loop s at word most i₀ i = most - i
 
--- src/words.rt:40:22
 sub-least : tie.Need-sub-least Inv-loop μ-loop
 sub-least c = omega (arith, c .before .before .pre)
 
--- src/words.rt:40:9
 least-requires : tie.Need-least-requires Inv-loop μ-loop
 least-requires c κs = search needs
 
--- src/words.rt:42:5
 loop-holds : tie.Need-loop-holds Inv-loop μ-loop
 loop-holds c = (omega arith, c .least .ensures .1, omega (arith, c .before .before .before .pre, c .least .ensures .0), (λ l. omega (arith, c .least .ensures .2 l, c .before .before .before .pre)), agree-start (c .before .before .before .args .word .now) (c .before .before .before .args .s .now) (c .before .before .before .args .at))
 
--- src/words.rt:43:14
 add-if1 : tie.Need-add-if1 Inv-loop μ-loop
 add-if1 c = search needs
 
--- src/words.rt:43:12
 shared-slice-read-if1 : tie.Need-shared-slice-read-if1 Inv-loop μ-loop
 shared-slice-read-if1 c = search needs
 
--- src/words.rt:43:25
 shared-slice-read-if1-2 : tie.Need-shared-slice-read-if1-2 Inv-loop μ-loop
 shared-slice-read-if1-2 c = search needs
 
--- src/words.rt:44:13
 returns : tie.Need-returns Inv-loop μ-loop
 returns c = (omega (arith, c .before .before .before .before .loop .inv, agree-differs (c .before .before .before .before .before .before .before .before .args .word .now) (c .before .before .before .before .before .before .before .before .args .s .now) (c .before .before .before .before .before .before .before .before .args .at) (c .before .before .before .before .loop .i) (omega (arith, c .before .before .before .before .loop .inv)) (omega (arith, c .before .before .before .before .loop .inv)) (c .if1 .taken)), omega (arith, c .before .before .before .before .loop .inv), omega (arith, c .before .before .before .before .loop .inv))
 
--- src/words.rt:46:9
 add-i : tie.Need-add-i Inv-loop μ-loop
 add-i c = search needs
 
--- src/words.rt:42:5
 loop-less : tie.Need-loop-less Inv-loop μ-loop
 loop-less c = search needs
 
--- src/words.rt:42:5
 loop-again : tie.Need-loop-again Inv-loop μ-loop
 loop-again c = (omega arith, c .before .before .before .before .loop .inv .1, c .before .before .before .before .loop .inv .2, c .before .before .before .before .loop .inv .3, omega (arith, c .before .before .before .before .loop .inv .4, agree-same (c .before .before .before .before .before .before .before .before .args .word .now) (c .before .before .before .before .before .before .before .before .args .s .now) (c .before .before .before .before .before .before .before .before .args .at) (c .before .before .before .before .loop .i) (omega (arith, c .before .before .before .before .loop .inv)) (omega (arith, c .before .before .before .before .loop .inv)) (c .if1 .left)))
 
--- src/words.rt:36:1
 returns-2 : tie.Need-returns-2 Inv-loop μ-loop
 returns-2 c = (omega (arith, c .before .loop .inv .4, agree-ended (c .before .before .before .before .before .args .word .now) (c .before .before .before .before .before .args .s .now) (c .before .before .before .before .before .args .at) (c .before .loop .i) (λ l. omega (arith, c .before .loop .inv, c .before .loop .inv .3 (omega (arith, c .before .loop .inv))))), omega (arith, c .before .loop .inv), omega (arith, c .before .loop .inv))
 

@@ -4,19 +4,15 @@ use borrow.Author.Needs.{needs}
 use Rattle.parse.proofs.words.digit_value.Statement.{statement}
 use Rattle.parse.proofs.words.digit_value.Tie as tie
 
--- src/words.rt:72:6
 byte-at-requires : tie.Need-byte-at-requires
 byte-at-requires c κs = search needs
 
--- src/words.rt:72:6
 sub-result : tie.Need-sub-result
 sub-result c = omega (arith, c .byte-at .ensures, digit-least _ (c .before .before .pre))
 
--- src/words.rt:72:5
 cast-result : tie.Need-cast-result
 cast-result c = search needs
 
--- src/words.rt:68:1
 returns : tie.Need-returns
 returns c = omega (arith, c .byte-at .ensures, digit-least _ (c .before .before .pre))
 

@@ -6,75 +6,57 @@ use borrow.Author.Needs.{needs}
 use Rattle.parse.proofs.words.number_at.Statement.{statement}
 use Rattle.parse.proofs.words.number_at.Tie as tie
 
--- src/words.rt:80:9
 digit-at-requires : tie.Need-digit-at-requires
 digit-at-requires c κs = search needs
 
--- src/words.rt:81:9
 returns : tie.Need-returns
 returns c = number-none (c .before .before .before .args .s .now) (c .before .before .before .args .at) 0 (sym (c .before .digit-at .ensures) ∙ not-true _ (c .if1 .taken))
 
--- src/words.rt:86:9
 digit-value-requires : tie.Need-digit-value-requires
 digit-value-requires c κs = digit-any 49 _ (omega arith) (sym (c .before .digit-at .ensures) ∙ not-false _ (c .if1 .left))
 
--- src/words.rt:87:21
 add-digit-at : tie.Need-add-digit-at
 add-digit-at c = search needs
 
--- src/words.rt:87:9
 digit-at-requires-2 : tie.Need-digit-at-requires-2
 digit-at-requires-2 c κs = search needs
 
--- src/words.rt:88:9
 returns-2 : tie.Need-returns-2
 returns-2 c = number-one (c .before .before .before .before .before .before .args .s .now) (c .before .before .before .before .before .before .args .at) _ (sym (c .before .before .before .before .digit-at .ensures) ∙ not-false _ (c .before .before .before .if1 .left)) (sym (c .before .digit-at2 .ensures) ∙ not-true _ (c .if2 .taken)) (c .before .before .digit-value .ensures .0)
 
--- src/words.rt:93:15
 mul-two : tie.Need-mul-two
 mul-two c = search needs
 
--- src/words.rt:93:41
 add-digit-value : tie.Need-add-digit-value
 add-digit-value c = search needs
 
--- src/words.rt:93:26
 digit-value-requires-2 : tie.Need-digit-value-requires-2
 digit-value-requires-2 c κs = sym (c .before .digit-at2 .ensures) ∙ not-false _ (c .if2 .left)
 
--- src/words.rt:93:15
 add-two : tie.Need-add-two
 add-two c = search needs
 
--- src/words.rt:94:21
 add-digit-at-2 : tie.Need-add-digit-at-2
 add-digit-at-2 c = search needs
 
--- src/words.rt:94:9
 digit-at-requires-3 : tie.Need-digit-at-requires-3
 digit-at-requires-3 c κs = search needs
 
--- src/words.rt:95:9
 returns-3 : tie.Need-returns-3
 returns-3 c = number-two (c .before .before .before .before .before .before .before .before .before .args .s .now) (c .before .before .before .before .before .before .before .before .before .args .at) _ _ (sym (c .before .before .before .before .before .before .before .digit-at .ensures) ∙ not-false _ (c .before .before .before .before .before .before .if1 .left)) (sym (c .before .before .before .before .digit-at2 .ensures) ∙ not-false _ (c .before .before .before .if2 .left)) (sym (c .before .digit-at3 .ensures) ∙ not-true _ (c .if3 .taken)) (c .before .before .before .before .before .digit-value .ensures .0) (c .before .before .digit-value2 .ensures .0)
 
--- src/words.rt:102:16
 mul-t9 : tie.Need-mul-t9
 mul-t9 c = search needs
 
--- src/words.rt:102:42
 add-digit-value-2 : tie.Need-add-digit-value-2
 add-digit-value-2 c = search needs
 
--- src/words.rt:102:27
 digit-value-requires-3 : tie.Need-digit-value-requires-3
 digit-value-requires-3 c κs = sym (c .before .digit-at3 .ensures) ∙ not-false _ (c .if3 .left)
 
--- src/words.rt:102:16
 add-t10 : tie.Need-add-t10
 add-t10 c = search needs
 
--- src/words.rt:76:1
 returns-4 : tie.Need-returns-4
 returns-4 c = number-three (c .before .before .before .before .before .before .before .before .before .before .args .s .now) (c .before .before .before .before .before .before .before .before .before .before .args .at) _ _ _ (sym (c .before .before .before .before .before .before .before .before .digit-at .ensures) ∙ not-false _ (c .before .before .before .before .before .before .before .if1 .left)) (sym (c .before .before .before .before .before .digit-at2 .ensures) ∙ not-false _ (c .before .before .before .before .if2 .left)) (sym (c .before .before .digit-at3 .ensures) ∙ not-false _ (c .before .if3 .left)) (c .before .before .before .before .before .before .digit-value .ensures .0) (c .before .before .before .digit-value2 .ensures .0) (c .digit-value3 .ensures .0)
 

@@ -9,59 +9,45 @@ use Rattle.parse.proofs.tree.read_tree.Reads as read-tree-reads
 use Rattle.typing.proofs.export.refused.Reads as refused-reads
 use Rattle.typing.proofs.write.write_rule.Reads as write-rule-reads
 
--- src/export.rt:37:11
 read-tree-requires : tie.Need-read-tree-requires
 read-tree-requires c κs = search needs
 
--- src/export.rt:38:26
 enum-known-p : tie.Need-enum-known-p
 enum-known-p c = search needs
 
--- src/export.rt:38:44
 cast-refused : tie.Need-cast-refused
 cast-refused c = omega (arith, place-small (c .before .before .before .before .before .before .before .args .text .now) (c .before .before .before .before .before .before .before .args .rule .now) (c .before .before .before .read-tree .result) _ (c .before .p .given .0 .0) (c .before .p .given .1) (c .before .before .before .read-tree .ensures))
 
--- src/export.rt:38:32
 refused-requires : tie.Need-refused-requires
 refused-requires c κs = search needs
 
--- src/export.rt:39:23
 enum-known-entries : tie.Need-enum-known-entries
 enum-known-entries c = search needs
 
--- src/export.rt:41:17
 refused-requires-2 : tie.Need-refused-requires-2
 refused-requires-2 c κs = search needs
 
--- src/export.rt:41:17
 returns : tie.Need-returns
 returns c = typed-many (c .before .before .before .before .before .before .before .before .before .args .text .now) (c .before .before .before .before .before .before .before .before .before .args .rule .now) (c .before .before .before .before .before .read-tree .result) _ (c .before .before .before .entries .given .0 .0) (c .before .before .before .entries .given .0 .1 .0) (c .before .before .before .entries .given .1) (c .before .before .before .before .before .read-tree .ensures) _ (c .before .if1 .taken) (c .refused2 .ensures)
 
--- src/export.rt:44:17
 refused-requires-3 : tie.Need-refused-requires-3
 refused-requires-3 c κs = search needs
 
--- src/export.rt:44:17
 returns-2 : tie.Need-returns-2
 returns-2 c = typed-short (c .before .before .before .before .before .before .before .before .before .before .args .text .now) (c .before .before .before .before .before .before .before .before .before .before .args .rule .now) (c .before .before .before .before .before .before .read-tree .result) _ (c .before .before .before .before .entries .given .0 .0) (c .before .before .before .before .entries .given .0 .1 .0) (c .before .before .before .before .entries .given .1) (c .before .before .before .before .before .before .read-tree .ensures) (c .before .before .if1 .left) _ (c .before .if2 .taken) (c .refused3 .ensures)
 
--- src/export.rt:46:13
 write-rule-requires : tie.Need-write-rule-requires
 write-rule-requires c κs = typed-asks (c .before .before .before .before .before .before .before .before .before .before .before .args .text .now) (c .before .before .before .before .before .before .before .before .before .before .before .args .rule .now) (c .before .before .before .before .before .before .before .read-tree .result) _ (c .before .before .before .before .before .entries .given .0 .0) (c .before .before .before .before .before .entries .given .0 .1 .0) (c .before .before .before .before .before .entries .given .1) (c .before .before .before .before .before .before .before .read-tree .ensures) (c .before .before .before .if1 .left) (c .before .before .if2 .left)
 
--- src/export.rt:50:26
 cast-t17 : tie.Need-cast-t17
 cast-t17 c = omega (arith, bytes-small (c .before .before .before .before .before .before .before .before .before .before .before .before .before .before .args .text .now) (c .before .before .before .before .before .before .before .before .before .before .before .before .before .before .args .rule .now) (c .before .before .before .before .before .before .before .before .before .before .read-tree .result) _ (c .before .before .before .before .before .before .before .before .entries .given .0 .0) (c .before .before .before .before .before .before .before .before .entries .given .0 .1 .0) (c .before .before .before .before .before .before .before .before .entries .given .1) (c .before .before .before .before .before .before .before .before .before .before .read-tree .ensures) (c .before .before .before .before .before .before .if1 .left))
 
--- src/export.rt:32:1
 returns-3 : tie.Need-returns-3
 returns-3 c = typed-stopped (c .before .before .before .before .before .before .before .before .args .text .now) (c .before .before .before .before .before .before .before .before .args .rule .now) (c .before .before .before .before .read-tree .result) _ (c .before .before .p .given .0 .0) _ (c .before .before .p .given .1) (c .before .before .before .before .read-tree .ensures) (c .refused .ensures)
 
--- src/export.rt:32:1
 same-length : tie.Need-same-length
 same-length c = search needs
 
--- src/export.rt:32:1
 returns-4 : tie.Need-returns-4
 returns-4 c = typed-taken (c .before .before .before .before .before .before .before .before .before .before .before .before .before .before .args .text .now) (c .before .before .before .before .before .before .before .before .before .before .before .before .before .before .args .rule .now) (c .before .before .before .before .before .before .before .before .before .before .read-tree .result) _ (c .before .before .before .before .before .before .before .before .entries .given .0 .0) (c .before .before .before .before .before .before .before .before .entries .given .0 .1 .0) (c .before .before .before .before .before .before .before .before .entries .given .1) (c .before .before .before .before .before .before .before .before .before .before .read-tree .ensures) (c .before .before .before .before .before .before .if1 .left) (c .before .before .before .before .before .if2 .left) _ (c .before .before .write-rule .ensures)
 
