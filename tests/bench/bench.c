@@ -320,8 +320,8 @@ static void path(const char *name, struct text t)
 }
 
 /* Eight times the length. With no room both texts are checked and neither is written, whatever they would give.
- * A processor foresees where the innermost calls return to, 16 of them or so, and no more: each level beyond costs
- * more than those, and all beyond cost the same. So nested texts grow by more than eight in either form. */
+ * Nested texts grow by more than eight in either form, though their instructions do not. Why was not measured; that a
+ * processor foresees the returns of few nested calls only is a guess. */
 static void growth(const char *name, struct text t, struct text longer, size_t room)
 {
     double ours = 1e9, ours_longer = 1e9, plain = 1e9, plain_longer = 1e9;
