@@ -225,23 +225,33 @@ static struct text flat_path(size_t bytes)
     return t;
 }
 
-/* Paths in tests in paths, in so many bytes, 3 n + 4 or 3 n + 8. */
+static size_t nested_depth(size_t bytes)
+{
+    return bytes / 64 * 20;
+}
+
+/* Paths in tests in paths, in so many bytes, 64 n: 20 n of them, and `not` in front of `not` in what is left. */
 static struct text nested_paths(size_t bytes)
 {
     struct text t = {{0}, 0};
-    const char *inmost = bytes % 3 == 1 ? "true" : "label 10";
-    size_t depth = (bytes - strlen(inmost)) / 3;
+    size_t depth = nested_depth(bytes);
     add(&t, depth, "<?");
-    add(&t, 1, inmost);
+    add(&t, bytes / 64 - 1, "not ");
+    add(&t, 1, "true");
     add(&t, depth, ">");
     return t;
+}
+
+static size_t choices_depth(size_t bytes)
+{
+    return bytes / 14 - 1;
 }
 
 /* Nested choices, in so many bytes, 14 n + 14: with 31 of them 64 entries, and no text that is taken is longer. */
 static struct text choices(size_t bytes)
 {
     struct text t = {{0}, 0};
-    size_t depth = bytes / 14 - 1;
+    size_t depth = choices_depth(bytes);
     add(&t, depth, "(");
     add(&t, 1, "not label 999 or label 999)");
     add(&t, depth - 1, "or label 999)");
@@ -319,9 +329,7 @@ static void path(const char *name, struct text t)
            ours / plain);
 }
 
-/* Eight times the length. With no room both texts are checked and neither is written, whatever they would give.
- * Nested texts grow by more than eight in either form, though their instructions do not. Why was not measured; that a
- * processor foresees the returns of few nested calls only is a guess. */
+/* Eight times the length. With no room both texts are checked and neither is written, whatever they would give. */
 static void growth(const char *name, struct text t, struct text longer, size_t room)
 {
     double ours = 1e9, ours_longer = 1e9, plain = 1e9, plain_longer = 1e9;
@@ -335,6 +343,23 @@ static void growth(const char *name, struct text t, struct text longer, size_t r
            name, ours_longer / ours, plain_longer / plain);
 }
 
+/* Parsers that call each other stand as deep in each other as the text's parts do. A processor foresees where the inmost
+ * few calls return to and no more, so deeper calls take longer, whatever is done in them: this is how much. */
+static void growth_of_calls(size_t depth, size_t longer)
+{
+    static const uint8_t bytes[PZ_TEXT_BYTES + 1];
+    double few = 1e9, many = 1e9;
+    for (int round = 0; round < ROUNDS; round++) {
+        double begun = microseconds(), then;
+        for (int i = 0; i < 8 * CALLS; i++) plain_nested_calls(bytes, depth);
+        then = microseconds();
+        for (int i = 0; i < CALLS; i++) plain_nested_calls(bytes, longer);
+        if ((then - begun) / 8 < few) few = (then - begun) / 8;
+        if (microseconds() - then < many) many = microseconds() - then;
+    }
+    printf("calls that do nothing else: %4zu to %4zu in each other  %.2f times the time\n", depth, longer, many / few);
+}
+
 static void paths(void)
 {
     struct text typical = {{0}, 0};
@@ -345,8 +370,10 @@ static void paths(void)
     path("nested", nested_paths(1024));
     growth("flat, checked", flat_path(128), flat_path(1024), 0);
     growth("nested, checked", nested_paths(128), nested_paths(1024), 0);
+    growth_of_calls(nested_depth(128), nested_depth(1024));
     growth("flat, taken", steps_up(50), steps_up(400), PZ_RULE_BYTES);
     growth("nested, taken", choices(56), choices(448), PZ_RULE_BYTES);
+    growth_of_calls(choices_depth(56), choices_depth(448));
 }
 
 int main(void)

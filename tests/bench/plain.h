@@ -10,4 +10,7 @@ struct pz_step plain_open(const uint8_t *rule, size_t rule_len, uint8_t *state, 
 struct pz_step plain_close(const uint8_t *rule, size_t rule_len, uint8_t *state, size_t state_len);
 struct pz_written plain_read_path(const uint8_t *text, size_t text_len, uint8_t *rule, size_t rule_len);
 
+/* Calls in each other, so many, with next to nothing to do in each: what nesting costs by itself. */
+unsigned plain_nested_calls(const uint8_t *bytes, size_t depth);
+
 #endif

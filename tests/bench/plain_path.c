@@ -294,3 +294,13 @@ struct pz_written plain_read_path(const uint8_t *text, size_t text_len, uint8_t 
     write_test(&w, 0);
     return answer(0, 0, c.bytes);
 }
+
+/* What is left to do behind the call keeps it a call. */
+static volatile uint8_t last_seen;
+
+__attribute__((noinline, noclone)) unsigned plain_nested_calls(const uint8_t *bytes, size_t depth)
+{
+    unsigned inner = depth ? plain_nested_calls(bytes + 1, depth - 1) : 0;
+    last_seen = *bytes;
+    return (inner ^ *bytes) * 5u;
+}

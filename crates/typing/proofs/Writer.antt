@@ -3,6 +3,7 @@ use Prim.Native.Nat.{ℕ, _+_, _-_, _*_, _≤_, _<_}
 use native.Mathlib.Omega.{arith}
 use mathlib.Core.Path.{_≡_, refl, sym, _∙_}
 use mathlib.Core.List.{List, []}
+use lib.ListN.{length}
 use Rattle.paths.specs.Syntax.{Test}
 use Rattle.paths.specs.Translation.{entry, lastOf, putT, putP, putS}
 use Rattle.parse.specs.Rows.{HeldT}
@@ -179,7 +180,7 @@ steps-first rows n l (sts, x, a) =
 module _ {rows : List ℕ} {n : ℕ} {p : Part} (s : Says rows n p) (l : 1 ≤ n)
     {rule rule₁ : List ℕ} {w w₁ : Written} (q : StepPuts rows n rule w rule₁ w₁) where
   -- once it is put, for those before it: it put an entry, and none past 64,
-  pub steps-second : StepsAsk rows n rule w → (w .entries < w₁ .entries) × (w₁ .entries ≤ 64) × (p .second ≤ 64) × StepsAsk rows (p .second) rule₁ w₁
+  steps-second : StepsAsk rows n rule w → (w .entries < w₁ .entries) × (w₁ .entries ≤ 64) × (p .second ≤ 64) × StepsAsk rows (p .second) rule₁ w₁
   steps-second (sts, x, a) =
       let i = steps-is rows sts n l x in
       let v = q (i .0) (i .1) (i .4) in
@@ -187,15 +188,54 @@ module _ {rows : List ℕ} {n : ℕ} {p : Part} (s : Says rows n p) (l : 1 ≤ n
       rw (before-is s (i .0) (i .1) (i .4)) (v .more, asks-few (steps-grow (i .2)) b, steps-row rows (i .2) (i .1) (i .5), (i .2, i .5, b))
 
   -- and where there is none, it is all;
-  pub steps-last : p .second ≡ 0 → StepsPut rows n rule w rule₁ w₁
+  steps-last : p .second ≡ 0 → StepsPut rows n rule w rule₁ w₁
   steps-last h sts x =
       let i = steps-is rows sts n l x in
       let e = before-is s (i .0) (i .1) (i .4) in
       puts-as (λ es. i .6 es ∙ none-before rows (i .2) (i .1) (sym e ∙ h) (i .5) (putS (i .0) es)) (q (i .0) (i .1) (i .4))
 
   -- else all are put once those before it are.
-  pub steps-puts : {rule₂ : List ℕ} {w₂ : Written} → StepsPut rows (p .second) rule₁ w₁ rule₂ w₂ → StepsPut rows n rule w rule₂ w₂
+  steps-puts : {rule₂ : List ℕ} {w₂ : Written} → StepsPut rows (p .second) rule₁ w₁ rule₂ w₂ → StepsPut rows n rule w rule₂ w₂
   steps-puts r sts x =
       let i = steps-is rows sts n l x in
       let u = rw (before-is s (i .0) (i .1) (i .4)) at r in
       puts-as (i .6) (puts-both (λ k. putS (i .0)) (λ k. putSteps (i .2)) refl (q (i .0) (i .1) (i .4)) (u (i .2) (i .5)))
+
+-- ---- a path's steps, one after the other
+
+-- From row n on, steps have been put; the next is in row `row`. There is room for it and those before it, and once they are put, all are.
+pub record Along (rows : List ℕ) (n : ℕ) (rule : List ℕ) (w : Written) (row : ℕ) (rule₁ : List ℕ) (w₁ : Written) : Type 0 where
+  pub some : 1 ≤ row
+  pub begun : 1 ≤ w₁ .entries
+  pub as-long : length rule₁ ≡ length rule
+  pub less-to-do : todo w₁ row ≤ todo w n
+  pub asks : StepsAsk rows row rule₁ w₁
+  pub whole : (rule₂ : List ℕ) (w₂ : Written) → StepsPut rows row rule₁ w₁ rule₂ w₂ → StepsPut rows n rule w rule₂ w₂
+
+pub along-none : (rows : List ℕ) (n : ℕ) (rule : List ℕ) (w : Written) → 1 ≤ n → 1 ≤ w .entries → StepsAsk rows n rule w → Along rows n rule w n rule w
+along-none rows n rule w l m a =
+    record { some = l; begun = m; as-long = refl; less-to-do = omega arith; asks = a; whole = λ rule₂ w₂ r. r }
+
+module _ {rows : List ℕ} {n row : ℕ} {rule rule₁ rule₂ : List ℕ} {w w₁ w₂ : Written} (a : Along rows n rule w row rule₁ w₁)
+    {p : Part} (s : Says rows row p) (q : StepPuts rows row rule₁ w₁ rule₂ w₂) where
+  -- The first step of the path is put: all are.
+  pub along-last : p .second ≡ 0 → StepsPut rows n rule w rule₂ w₂
+  along-last h = a .whole rule₂ w₂ (steps-last s (a .some) q h)
+
+  module _ (h : p .second ≡ 0 → ⊥) where
+    -- Another was put, so there is less to do,
+    pub along-less : todo w₂ (p .second) < todo w₁ row
+    along-less = let (i, j, k, x) = steps-second s (a .some) q (a .asks) in omega (arith, i, j, k, a .some)
+
+    -- and one step more is put.
+    pub along-more : length rule₂ ≡ length rule₁ → Along rows n rule w (p .second) rule₂ w₂
+    along-more e =
+        let (i, j, k, x) = steps-second s (a .some) q (a .asks) in
+        record {
+          some = omega (arith, h);
+          begun = omega (arith, i);
+          as-long = e ∙ a .as-long;
+          less-to-do = omega (arith, along-less, a .less-to-do);
+          asks = x;
+          whole = λ rule₃ w₃ r. a .whole rule₃ w₃ (steps-puts s (a .some) q r);
+        }

@@ -1,6 +1,5 @@
 // The writer: it follows the rows of a text's tree and puts the entries. A test stands in a row below
-// that of the part it belongs to, and every step puts an entry or more, so it ends, and no call stands
-// more than 128 deep.
+// that of the part it belongs to, and every step puts an entry or more, so it ends.
 ghost use mathlib.Core.Path.{_≡_};
 ghost use Prim.Native.Nat.{_≤_};
 ghost use lib.ListN.{length};
@@ -64,17 +63,21 @@ fn write(rows: &[u16; 192], n: u16, rule: &mut [u8], w: Written) -> Written
 }
 
 // The entries of the step in row n and then of the steps before it in its path. The argument of each
-// is the last entry so far.
+// is the last entry so far. A loop and not a call for each step, as the steps are read.
 fn write_steps(rows: &[u16; 192], n: u16, rule: &mut [u8], w: Written) -> Written
     requires { ⌜ (1 ≤ n) × (1 ≤ w .entries) × StepsAsk (now rows) n (now rule) w ⌝ }
     ensures { λ r. ⌜ StepsPut (now (rows .entry)) n (now (rule .entry)) w (now (rule .exit)) r ⌝ }
 {
-    let own = write_step(rows, n, rule, w);
-    let part = part_at(rows, n);
-    if part.second == 0 {
-        return own;
+    let mut row = n;
+    let mut so_far = w;
+    loop {
+        so_far = write_step(rows, row, rule, so_far);
+        let part = part_at(rows, row);
+        if part.second == 0 {
+            return so_far;
+        }
+        row = part.second;
     }
-    write_steps(rows, part.second, rule, own)
 }
 
 // The entries of the step in row n alone: of its test, if it has one, and its own.

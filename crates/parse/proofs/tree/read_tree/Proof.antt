@@ -2,9 +2,6 @@ use Rattle.parse.proofs.ReadLaws.{sized-so, tree-size, tree-text, tree-
 use borrow.Author.Needs.{needs}
 use Rattle.parse.proofs.tree.read_tree.Statement.{statement}
 use Rattle.parse.proofs.tree.read_tree.Tie as tie
-use Rattle.parse.proofs.tree.read_tree.Reads as reads
-use Rattle.parse.proofs.tree.read_tree.Lts as lts
-use Rattle.parse.proofs.tree.read_sized.Reads as read-sized-reads
 
 returns : tie.Need-returns
 returns c = tree-size (c .before .before .before .args .s .now) (c .if1 .taken)

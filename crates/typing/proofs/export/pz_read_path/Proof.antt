@@ -3,11 +3,6 @@ use Rattle.typing.proofs.Answered.{place-small, typed-stopped, typed-ma
 use borrow.Author.Needs.{needs}
 use Rattle.typing.proofs.export.pz_read_path.Statement.{statement}
 use Rattle.typing.proofs.export.pz_read_path.Tie as tie
-use Rattle.typing.proofs.export.pz_read_path.Reads as reads
-use Rattle.typing.proofs.export.pz_read_path.Lts as lts
-use Rattle.parse.proofs.tree.read_tree.Reads as read-tree-reads
-use Rattle.typing.proofs.export.refused.Reads as refused-reads
-use Rattle.typing.proofs.write.write_rule.Reads as write-rule-reads
 
 read-tree-requires : tie.Need-read-tree-requires
 read-tree-requires c κs = search needs

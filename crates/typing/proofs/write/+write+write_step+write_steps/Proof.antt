@@ -1,11 +1,11 @@
--- `write` calls itself on rows below its own and `write_steps` on its own row, `write_steps` calls `write_step` on its row and itself once
--- more entries are written, and `write_step` calls `write` on a row below. Assumes nothing.
+-- `write` calls itself on rows below its own and `write_steps` on its own row, `write_steps` calls `write_step` on that row and then, with
+-- more entries written, on those that it leads to, and `write_step` calls `write` on a row below. Assumes nothing.
 use Prim.Native.Nat.{_+_, _≤_}
 use native.Mathlib.Omega.{arith}
 use mathlib.Core.Logic.{⊎-elim}
 use borrow.Author.Needs.{needs}
 use Rattle.typing.proofs.Below.{OfStep, Says, step-row, test-row}
-use Rattle.typing.proofs.Writer.{todo, true-asks, true-puts, label-asks, label-puts, not-first, not-more, not-second, not-puts, or-first, or-second, or-more, or-third, or-puts, path-first, path-second, path-puts, plain-asks, plain-puts, tested-first, tested-second, tested-puts, steps-first, steps-second, steps-last, steps-puts}
+use Rattle.typing.proofs.Writer.{todo, true-asks, true-puts, label-asks, label-puts, not-first, not-more, not-second, not-puts, or-first, or-second, or-more, or-third, or-puts, path-first, path-second, path-puts, plain-asks, plain-puts, tested-first, tested-second, tested-puts, steps-first, Along, along-none, along-last, along-less, along-more}
 use Prim.Native.Nat.{ℕ, _<_}
 use borrow.Fn.Kinds.{In}
 use borrow.Fn.PlainCycle.{Measures, is, falls, and}
@@ -88,7 +88,7 @@ write-step-calls t = (
 )
 
 abbrev write-steps-calls : ℕ → write-steps-lts.Claims
-write-steps-calls t = (write-step-below t, write-step.Post, part-at-reads.Asked, part-at-reads.Learnt, write-steps-below t, write-steps.Post)
+write-steps-calls t = (write-step-below t, write-step.Post, part-at-reads.Asked, part-at-reads.Learnt)
 
 -- The row is read,
 write-says : (t : ℕ) (c : write-lts.After-part-at (write-calls t) (write-at t) write.Post)
@@ -98,10 +98,6 @@ write-says t c = record { part-is = c .part-at .ensures }
 write-step-says : (t : ℕ) (c : write-step-lts.After-part-at (write-step-calls t) (write-step-at t) write-step.Post)
     → (let a = c .before .before .args in Says (a .rows .now) (a .n) (c .part-at .result))
 write-step-says t c = record { part-is = c .part-at .ensures }
-
-write-steps-says : (t : ℕ) (c : write-steps-lts.After-part-at (write-steps-calls t) (write-steps-at t) write-steps.Post)
-    → (let a = c .before .before .before .before .before .before .args in Says (a .rows .now) (a .n) (c .part-at .result))
-write-steps-says t c = record { part-is = c .part-at .ensures }
 
 -- and is a step's.
 of-step : (t : ℕ) (c : write-lts.At-match-rest (write-calls t) (write-at t) write.Post) → OfStep (c .before .part-at .result .form)
@@ -320,46 +316,55 @@ write-step-returns-2 t c =
     let x4 = x3 .before .before in
     tested-puts (write-step-says t (x4 .before)) (with-test t x4) (x3 .write .ensures) (x2 .last .ensures) (x1 .put-tested .ensures)
 
-write-steps-write-step-requires : (t : ℕ) → write-steps-lts.Need-write-step-requires (write-steps-calls t) (write-steps-at t) write-steps.Post
+-- The steps of a path are put in a loop.
+abbrev write-steps-Inv-loop : write-steps-lts.InvT-loop
+write-steps-Inv-loop rows n rule₀ row₀ w₀ rule row w = Along rows n rule₀ w₀ row rule w
+
+abbrev write-steps-μ-loop : write-steps-lts.MeasureT-loop
+write-steps-μ-loop rows n rule₀ row₀ w₀ rule row w = todo w row
+
+write-steps-says : (t : ℕ) (c : write-steps-lts.After-part-at (write-steps-calls t) (write-steps-at t) write-steps.Post write-steps-Inv-loop write-steps-μ-loop)
+    → (let x = c .before .before .before .before .before in Says (x .before .before .args .rows .now) (x .loop .row) (c .part-at .result))
+write-steps-says t c = record { part-is = c .part-at .ensures }
+
+write-steps-loop-holds : (t : ℕ) → write-steps-lts.Need-loop-holds (write-steps-calls t) (write-steps-at t) write-steps.Post write-steps-Inv-loop write-steps-μ-loop
+write-steps-loop-holds t c =
+    let s = c .before in
+    along-none (s .args .rows .now) (s .args .n) (s .args .rule .now) (s .args .w) (s .pre .1 .0) (s .pre .1 .1) (s .pre .1 .2)
+
+write-steps-write-step-requires : (t : ℕ) → write-steps-lts.Need-write-step-requires (write-steps-calls t) (write-steps-at t) write-steps.Post write-steps-Inv-loop write-steps-μ-loop
 write-steps-write-step-requires t c κs =
-    let s = c .before .before in
-    let a = steps-first (s .args .rows .now) (s .args .n) (s .pre .1 .0) (s .pre .1 .2) in
-    (omega (arith, s .pre .0), (a .0, s .pre .1 .1, a .1))
+    let l = c .before .loop in
+    let s = c .before .before .before in
+    let a = steps-first (s .args .rows .now) (l .row) (l .inv .some) (l .inv .asks) in
+    (omega (arith, s .pre .0, l .inv .less-to-do), (a .0, l .inv .begun, a .1))
 
-write-steps-part-at-requires : (t : ℕ) → write-steps-lts.Need-part-at-requires (write-steps-calls t) (write-steps-at t) write-steps.Post
+write-steps-part-at-requires : (t : ℕ) → write-steps-lts.Need-part-at-requires (write-steps-calls t) (write-steps-at t) write-steps.Post write-steps-Inv-loop write-steps-μ-loop
 write-steps-part-at-requires t c κs =
-    let s = c .before .before .before .before .before in
-    (s .pre .1 .0, steps-first (s .args .rows .now) (s .args .n) (s .pre .1 .0) (s .pre .1 .2) .0)
+    let x = c .before .before .before .before in
+    let l = x .loop in
+    (l .inv .some, steps-first (x .before .before .args .rows .now) (l .row) (l .inv .some) (l .inv .asks) .0)
 
-write-steps-same-length : (t : ℕ) → write-steps-lts.Need-same-length (write-steps-calls t) (write-steps-at t) write-steps.Post
+write-steps-same-length : (t : ℕ) → write-steps-lts.Need-same-length (write-steps-calls t) (write-steps-at t) write-steps.Post write-steps-Inv-loop write-steps-μ-loop
 write-steps-same-length t c = search needs
 
-write-steps-returns : (t : ℕ) → write-steps-lts.Need-returns (write-steps-calls t) (write-steps-at t) write-steps.Post
+write-steps-returns : (t : ℕ) → write-steps-lts.Need-returns (write-steps-calls t) (write-steps-at t) write-steps.Post write-steps-Inv-loop write-steps-μ-loop
 write-steps-returns t c =
     let x1 = c .before .before in
     let x2 = x1 .before .before .before in
-    let s = x2 .before .before .before in
-    steps-last (write-steps-says t x1) (s .pre .1 .0) (x2 .write-step .ensures) (c .if1 .taken)
+    along-last (x2 .before .before .loop .inv) (write-steps-says t x1) (x2 .write-step .ensures) (c .if1 .taken)
 
-write-steps-write-steps-requires : (t : ℕ) → write-steps-lts.Need-write-steps-requires (write-steps-calls t) (write-steps-at t) write-steps.Post
-write-steps-write-steps-requires t c κs =
-    let x1 = c .before in
-    let x2 = x1 .before .before in
-    let x3 = x2 .before .before .before in
-    let s = x3 .before .before .before in
-    let a = steps-second (write-steps-says t x2) (s .pre .1 .0) (x3 .write-step .ensures) (s .pre .1 .2) in
-    (omega (arith, a .0, a .1, a .2, s .pre .1 .0, s .pre .0), (omega (arith, x1 .if1 .left), omega (arith, a .0), a .3))
-
-write-steps-same-length-2 : (t : ℕ) → write-steps-lts.Need-same-length-2 (write-steps-calls t) (write-steps-at t) write-steps.Post
-write-steps-same-length-2 t c = search needs
-
-write-steps-returns-2 : (t : ℕ) → write-steps-lts.Need-returns-2 (write-steps-calls t) (write-steps-at t) write-steps.Post
-write-steps-returns-2 t c =
+write-steps-loop-less : (t : ℕ) → write-steps-lts.Need-loop-less (write-steps-calls t) (write-steps-at t) write-steps.Post write-steps-Inv-loop write-steps-μ-loop
+write-steps-loop-less t c =
     let x1 = c .before .before in
-    let x2 = x1 .before .before .before .before in
-    let x3 = x2 .before .before .before in
-    let s = x3 .before .before .before in
-    steps-puts (write-steps-says t x2) (s .pre .1 .0) (x3 .write-step .ensures) (x1 .write-steps .ensures)
+    let x2 = x1 .before .before .before in
+    along-less (x2 .before .before .loop .inv) (write-steps-says t x1) (x2 .write-step .ensures) (c .if1 .left)
+
+write-steps-loop-again : (t : ℕ) → write-steps-lts.Need-loop-again (write-steps-calls t) (write-steps-at t) write-steps.Post write-steps-Inv-loop write-steps-μ-loop
+write-steps-loop-again t c =
+    let x1 = c .before .before in
+    let x2 = x1 .before .before .before in
+    along-more (x2 .before .before .loop .inv) (write-steps-says t x1) (x2 .write-step .ensures) (c .if1 .left) (search needs)
 
 pub +write+write-step+write-steps-spec : {M : Type 1} → statement M
 +write+write-step+write-steps-spec = close μ-write μ-write-step μ-write-steps (λ t. write-lts.spec (
@@ -414,10 +419,12 @@ pub +write+write-step+write-steps-spec : {M : Type 1} → statement M
     λ t. write-steps-lts.spec (write-steps-calls t)
     (write-steps-at t)
     write-steps.Post
+    write-steps-Inv-loop
+    write-steps-μ-loop
+    (write-steps-loop-holds t)
     (write-steps-write-step-requires t)
     (write-steps-part-at-requires t)
     (write-steps-same-length t)
     (write-steps-returns t)
-    (write-steps-write-steps-requires t)
-    (write-steps-same-length-2 t)
-    (write-steps-returns-2 t)
+    (write-steps-loop-less t)
+    (write-steps-loop-again t)
