@@ -14,14 +14,14 @@ use borrow.Author.Tests.{lt-ltb, le-ltb, eq-eqb, ne-eqb}
 use lib.Bits.{bitOr}
 use lib.Dec.{ltb, eqb}
 use lib.ListN.{length, getD, set, List·getD-eq-default}
-use Rattle.grammar.proofs.Tells.{told-same, true-iff, eqb-told, and-told}
-use Rattle.meaning.specs.Links.{At}
-use Rattle.meaning.specs.Marks.{at, anyBelow, bit, bitAt}
+use Rattle.grammar.proofs.Tells.{holds, told-same, true-iff, eqb-told, and-told}
+use Rattle.meaning.specs.Tree.{forward}
+use Rattle.meaning.specs.Marks.{at, anyBelow, bit, bitAt, someOf}
 use Rattle.meaning.proofs.Ways.{at-iff}
-use Rattle.meaning.proofs.Tests.{at-told, any-told, bool-told}
+use Rattle.meaning.proofs.Tests.{ahead, at-told, some-told, bool-told}
 use Rattle.evaluate.specs.Links.{leads, leadsTo}
 use Rattle.evaluate.specs.Pass.{Passed, Room, bitsOf}
-use Rattle.evaluate.specs.Steps.{gatherMark, ownStep, givenStep, aheadMark, Nearest}
+use Rattle.evaluate.specs.Steps.{ownStep, givenStep, aheadMark, Nearest}
 use Rattle.evaluate.specs.declared.ahead.Look.{Look}
 use Rattle.evaluate.specs.declared.ahead.Look.the-variants.{Until, Every}
 use Rattle.evaluate.proofs.LinkLaws.{getD-any, leads-at, leads-down, leads-number, number-leads, leads-finds}
@@ -45,24 +45,18 @@ and-false false = refl
 module _ (f : List ℕ) (t : ℕ) (l : t < length f) where
   -- Where whoever is led to is led to from the very next element, one leads to t exactly where the number after t's is t.
   nearest-child : ((s c : ℕ) → leads f c ≡ some s → leads f (suc s) ≡ some s)
-      → eqb (getD f (suc t) (length f)) t ≡ anyBelow (length f) (λ c. at (leads f c) (λ u. eqb u t))
+      → eqb (getD f (suc t) (length f)) t ≡ someOf forward (length f) (leads f) (λ c. true) t
   nearest-child near =
-      told-same (eqb-told (getD f (suc t) (length f)) t) (any-told (length f) (λ c m. at-told (leads f c) (λ u q. eqb-told u t))) (to, from)
-    where
-      to : getD f (suc t) (length f) ≡ t → (c : ℕ) × (c < length f) × At (leads f c) (λ u. u ≡ t)
-      to e =
-          elim (decLt (suc t) (length f)) [
-            | yes m ↦ (suc t, m, at-iff (leads f (suc t)) (λ u. u ≡ t) .1 (t, number-leads f (suc t) t (length f) m (omega arith) e, refl))
-            | no h ↦ absurd (omega (arith, List·getD-eq-default f (length f) {n = suc t} (omega arith)))
-          ]
-
-      from : (c : ℕ) × (c < length f) × At (leads f c) (λ u. u ≡ t) → getD f (suc t) (length f) ≡ t
-      from (c, m, h) =
-          let r = at-iff (leads f c) (λ u. u ≡ t) .0 h in
-          leads-number f (suc t) t (length f) (near t c (r .1 ∙ ap some (r .2)))
+      told-same (eqb-told (getD f (suc t) (length f)) t) (some-told (ahead (leads-finds f)) t (λ c q. holds (tt {0}))) (
+        λ e. elim (decLt (suc t) (length f)) [
+          | yes m ↦ (suc t, number-leads f (suc t) t (length f) m (omega arith) e, tt)
+          | no h ↦ absurd (omega (arith, List·getD-eq-default f (length f) {n = suc t} (omega arith)))
+        ],
+        λ r. leads-number f (suc t) t (length f) (near t (r .0) (r .1)),
+      )
 
   child-is : (look : Look) → Nearest look f → (x y z : Bool)
-      → ownStep look x y z (eqb (getD f (suc t) (length f)) t) ≡ ownStep look x y z (anyBelow (length f) (λ c. at (leads f c) (λ u. eqb u t)))
+      → ownStep look x y z (eqb (getD f (suc t) (length f)) t) ≡ ownStep look x y z (someOf forward (length f) (leads f) (λ c. true) t)
   unfolding Nearest
   child-is Until near x y z = refl
   child-is Every near x y z = ap (ownStep Every x y z) (nearest-child near)
@@ -116,8 +110,8 @@ module _ (f before : List ℕ) (a : ℕ) where
         more s = rw (add-one k, any-more) (or-swap (given-by k s) (at (leads f k) (λ u. eqb u s) && bitsOf before a k))
 
     pub gather-end : {after : List ℕ} (k : ℕ) → k ≡ length f → Passed (length f) i (given-by k) before after
-        → Passed (length f) i (gatherMark (length f) (leads f) (bitsOf before a)) before after
-    unfolding gatherMark
+        → Passed (length f) i (someOf forward (length f) (leads f) (bitsOf before a)) before after
+    unfolding someOf
     gather-end k e r = rw e at r
 
 -- ---- the pass by turns
@@ -174,6 +168,7 @@ module _ (look : Look) (f before : List ℕ) (a b : ℕ) where
 
       -- What has been gathered makes the element's mark.
       own-is : own ≡ marks t
+      unfolding someOf
       own-is =
           rw (
             passed-under room (mid .passed) t l a la,

@@ -1,6 +1,6 @@
 -- Laws behind the evaluator's answer: what a filled column holds, and the order of refusals, one law for each way through.
 -- Assumes nothing.
-use Prim.Native.Nat.{ℕ, pred, _≤_, _<_}
+use Prim.Native.Nat.{ℕ, pred, _*_, _≤_, _<_}
 use native.Mathlib.Omega.{arith}
 use borrow.Author.Tests.{lt-ltb, le-ltb, ne-eqb}
 use mathlib.Core.Path.{_≡_, refl, sym, ap, subst, _∙_}
@@ -13,12 +13,13 @@ use lib.Seq.{take-append-seam}
 use Rattle.records.specs.Answer.{countOf, placeOf}
 use Rattle.records.specs.Rule.{ruleAnswer}
 use Rattle.records.specs.Report.{reportAnswer}
-use Rattle.records.specs.Tables.{EntriesFilled, ElementsFilled, entriesOf, labelsOf, levelsOf, over, kindOf, aOf, bOf}
+use Rattle.records.specs.Tables.{EntriesFilled, EntriesTaken, ElementsTaken, entriesOf, labelsOf, levelsOf, over, kindOf, aOf, bOf}
 use Rattle.records.specs.declared.answer.Answer.{Answer}
 use Rattle.records.specs.declared.answer.Answer.the-variants.{Accepted, Refused}
 use Rattle.records.specs.declared.rule.Entry.{Entry}
 use Rattle.records.proofs.Bounds.{report-small, rule-small}
-use Rattle.records.proofs.TableLaws.{over-kept, over-length, over-is}
+use Rattle.records.proofs.TableLaws.{over-kept, over-length, over-is, accepts-of}
+use Rattle.records.proofs.WalkLaws.{taken-lists, entries-taken-all}
 use Rattle.grammar.specs.Rules.{RuleEntries}
 use Rattle.grammar.specs.Legal.{LegalLevels}
 use Rattle.grammar.proofs.WhenRule.{rule-numbers}
@@ -131,29 +132,38 @@ module _ (rule report marks : List ℕ) where
 -- ---- what the filled tables are
 
 -- The columns of an accepted report: n labels and n levels, those of the report.
-pub record ElementsRead (report : List ℕ) (n : ℕ) (ls ds : List ℕ) : Type 0 where
+pub record ElementsRead (report labels : List ℕ) (n : ℕ) (ls ds : List ℕ) : Type 0 where
   pub is : Accepted n ≡ reportAnswer report
   pub few : n ≤ 4096
+  pub fits : n ≤ length labels
   pub labels-room : n ≤ length ls
   pub levels-room : n ≤ length ds
   pub labels-read : take n ls ≡ labelsOf report
   pub levels-read : take n ds ≡ levelsOf report
   pub legal : LegalLevels (take n ds)
 
-pub elements-read : (report labels levels : List ℕ) {r : Answer} {n : ℕ} {ls ds : List ℕ} → length labels ≡ 4096 → length levels ≡ 4096
-    → ElementsFilled report labels levels r ls ds → r ≡ Accepted n → ElementsRead report n ls ds
-elements-read report labels levels {r} {n} {ls} {ds} a b f e =
+pub elements-read : (report labels levels : List ℕ) {r : Answer} {n : ℕ} {ls ds : List ℕ}
+    → (length report ≤ 40960 → length report ≤ 10 * length labels) → length levels ≡ length labels
+    → ElementsTaken report labels levels r ls ds → r ≡ Accepted n → ElementsRead report labels n ls ds
+elements-read report labels levels {r} {n} {ls} {ds} room b f e =
     let is : Accepted n ≡ reportAnswer report = sym e ∙ f .answer in
     let few : n ≤ 4096 = subst (λ (x : Answer). countOf x ≤ 4096) (sym is) (report-small report .count-in) in
+    let size : length report ≡ 10 * n = f .sized n e in
+    let room′ : length report ≤ 10 * length labels = room (omega arith) in
+    let fits : n ≤ length labels = omega arith in
+    let own = taken-lists report (accepts-of is) in
+    let kl : ls ≡ over (labelsOf report) labels = f .labels-are ∙ ap (λ (xs : List ℕ). over xs labels) (own .0) in
+    let kd : ds ≡ over (levelsOf report) levels = f .levels-are ∙ ap (λ (xs : List ℕ). over xs levels) (own .1) in
     let lk : length (labelsOf report) ≡ n = elements-count report ∙ ap countOf (sym is) in
     let ld : length (levelsOf report) ≡ n = levels-elements report ∙ ap countOf (sym is) in
-    let td : take n ds ≡ levelsOf report = filled-take (levelsOf report) levels n (f .levels-are) ld (omega arith) in
+    let td : take n ds ≡ levelsOf report = filled-take (levelsOf report) levels n kd ld (omega arith) in
     record {
       is = is;
       few = few;
-      labels-room = omega (arith, filled-length (labelsOf report) labels 4096 (f .labels-are) a);
-      levels-room = omega (arith, filled-length (levelsOf report) levels 4096 (f .levels-are) b);
-      labels-read = filled-take (labelsOf report) labels n (f .labels-are) lk (omega arith);
+      fits = fits;
+      labels-room = omega (arith, filled-length (labelsOf report) labels (length labels) kl refl);
+      levels-room = omega (arith, filled-length (levelsOf report) levels (length levels) kd refl);
+      labels-read = filled-take (labelsOf report) labels n kl lk (omega arith);
       levels-read = td;
       legal = subst LegalLevels (sym td) (levels-legal report n (sym is));
     }
@@ -167,10 +177,10 @@ pub record EntriesRead (rule : List ℕ) (n : ℕ) (ks fs ss : List ℕ) : Type 
   pub table-read : tableOf n ks fs ss ≡ entriesOf rule
   pub table-rule : RuleEntries (tableOf n ks fs ss)
 
-pub entries-read : (rule kinds firsts seconds : List ℕ) {r : Answer} {n : ℕ} {ks fs ss : List ℕ}
+entries-held : (rule kinds firsts seconds : List ℕ) {r : Answer} {n : ℕ} {ks fs ss : List ℕ}
     → length kinds ≡ 64 → length firsts ≡ 64 → length seconds ≡ 64
     → EntriesFilled rule kinds firsts seconds r ks fs ss → r ≡ Accepted n → EntriesRead rule n ks fs ss
-entries-read rule kinds firsts seconds {r} {n} {ks} {fs} {ss} a b c f e =
+entries-held rule kinds firsts seconds {r} {n} {ks} {fs} {ss} a b c f e =
     let is : Accepted n ≡ ruleAnswer rule = sym e ∙ f .answer in
     let le : length (entriesOf rule) ≡ n = entries-count rule ∙ ap countOf (sym is) in
     let few : n ≤ 64 = omega (arith, entries-few rule) in
@@ -187,6 +197,20 @@ entries-read rule kinds firsts seconds {r} {n} {ks} {fs} {ss} a b c f e =
       table-read = table;
       table-rule = subst RuleEntries (sym table) whole;
     }
+
+pub entries-read : (rule kinds firsts seconds : List ℕ) {r : Answer} {n : ℕ} {ks fs ss : List ℕ}
+    → length kinds ≡ 64 → length firsts ≡ 64 → length seconds ≡ 64
+    → EntriesTaken rule kinds firsts seconds r ks fs ss → r ≡ Accepted n → EntriesRead rule n ks fs ss
+entries-read rule kinds firsts seconds {r} {n} a b c f e =
+    let all = entries-taken-all rule n (sym e ∙ f .answer) in
+    entries-held rule kinds firsts seconds a b c (
+    record {
+      answer = f .answer;
+      kinds-are = f .kinds-are ∙ ap (λ (es : List Entry). over (map kindOf es) kinds) all;
+      firsts-are = f .firsts-are ∙ ap (λ (es : List Entry). over (map aOf es) firsts) all;
+      seconds-are = f .seconds-are ∙ ap (λ (es : List Entry). over (map bOf es) seconds) all;
+    }
+    ) e
 
 -- The place of a rule's refusal fits where a report's does.
 pub rule-place : (rule : List ℕ) → placeOf (ruleAnswer rule) ≤ 40960

@@ -19,16 +19,21 @@ use Rattle.grammar.specs.Legal.{LegalLevels}
 use Rattle.grammar.specs.Rules.{noEntry, RuleEntries}
 use Rattle.grammar.proofs.Entries.{formed-kind, formed-a, formed-b}
 use Rattle.grammar.proofs.Tells.{Told, told-same}
-use Rattle.meaning.specs.Links.{parent, previous}
-use Rattle.meaning.specs.Meaning.{Kind, kindOf, nothing, always, hasLabel, negation, disjunction, conjunction, someChild, atParent, atNext, atPrevious, down, up, right, left, everyChild}
-use Rattle.meaning.specs.Marks.{bit, bitAt, means, mark, word, wordOf, words, selected}
+use Rattle.records.specs.declared.kind.Axis.{Axis}
+use Rattle.records.specs.declared.kind.Axis.the-variants.{Child as child, Parent as parent, Next as next, Previous as previous}
+use Rattle.meaning.specs.Tree.{direction}
+use Rattle.meaning.specs.Links.{link}
+use Rattle.records.specs.declared.kind.Kind.{Kind}
+use Rattle.records.specs.declared.kind.Kind.the-variants.{SomeAlong as someAlong, UntilAlong as untilAlong, EveryChild as everyChild}
+use Rattle.records.specs.Kinds.{kindOf}
+use Rattle.meaning.specs.Marks.{bit, bitAt, someOf, everyOf, untilOf, means, mark, word, wordOf, words, selected}
 use Rattle.meaning.proofs.Tests.{bool-told}
 use Rattle.meaning.proofs.Reflect.{means-told}
 use Rattle.meaning.proofs.OneStep.{mark-rule, plain}
 use Rattle.meaning.proofs.Words.{pred-sub, bit-small, word-bit, word-lt, words-length, words-at, selected-more}
 use Rattle.evaluate.specs.Links.{leads, Leads, Linked}
 use Rattle.evaluate.specs.Pass.{Stored, Passed, Room, bitsOf, Marked}
-use Rattle.evaluate.specs.Steps.{localMark, backMark, gatherMark, aheadMark, passMark, Nearest}
+use Rattle.evaluate.specs.Steps.{localMark, Nearest}
 use Rattle.grammar.specs.Columns.{tableOf, entryIn}
 use Rattle.evaluate.specs.declared.ahead.Look.{Look}
 use Rattle.evaluate.specs.declared.ahead.Look.the-variants.{Until, Every}
@@ -70,37 +75,17 @@ gate-and true false = refl
 gate-and false true = refl
 gate-and false false = refl
 
--- The table of passes along parents and previous siblings is the table of kinds.
-pub pass-means : (levels labels : List ℕ) (k : Kind) (l : ℕ) (a b : ℕ → Bool) (s : ℕ)
-    → passMark (length levels) labels (parent levels) (previous levels) k l a b s ≡ means levels labels k l a b s
-unfolding passMark means localMark backMark gatherMark aheadMark
-pass-means levels labels nothing l a b s = refl
-pass-means levels labels always l a b s = refl
-pass-means levels labels hasLabel l a b s = refl
-pass-means levels labels negation l a b s = refl
-pass-means levels labels disjunction l a b s = refl
-pass-means levels labels conjunction l a b s = refl
-pass-means levels labels someChild l a b s = refl
-pass-means levels labels atParent l a b s = refl
-pass-means levels labels atNext l a b s = refl
-pass-means levels labels atPrevious l a b s = refl
-pass-means levels labels down l a b s = refl
-pass-means levels labels up l a b s = refl
-pass-means levels labels right l a b s = refl
-pass-means levels labels left l a b s = refl
-pass-means levels labels everyChild l a b s = refl
-
--- The local kinds, 1 to 5, are the first rows of the table.
-pub pass-local : (n : ℕ) (labels : List ℕ) (ups lefts : ℕ → Option ℕ) (k l : ℕ) (a b : ℕ → Bool) (s : ℕ) → k ≤ 5
-    → localMark (kindOf k) l (getD labels s 0) (a s) (b s) ≡ passMark n labels ups lefts (kindOf k) l a b s
-unfolding passMark
-pass-local n labels ups lefts zero l a b s h = refl
-pass-local n labels ups lefts (suc zero) l a b s h = refl
-pass-local n labels ups lefts (suc (suc zero)) l a b s h = refl
-pass-local n labels ups lefts (suc (suc (suc zero))) l a b s h = refl
-pass-local n labels ups lefts (suc (suc (suc (suc zero)))) l a b s h = refl
-pass-local n labels ups lefts (suc (suc (suc (suc (suc zero))))) l a b s h = refl
-pass-local n labels ups lefts (suc (suc (suc (suc (suc (suc k)))))) l a b s h = absurd (omega arith)
+-- Kinds 1 to 5 are local.
+local-means : (levels labels : List ℕ) (k l : ℕ) (a b : ℕ → Bool) (s : ℕ) → k ≤ 5
+    → localMark (kindOf k) l (getD labels s 0) (a s) (b s) ≡ means levels labels (kindOf k) l a b s
+unfolding localMark means
+local-means levels labels zero l a b s h = refl
+local-means levels labels (suc zero) l a b s h = refl
+local-means levels labels (suc (suc zero)) l a b s h = refl
+local-means levels labels (suc (suc (suc zero))) l a b s h = refl
+local-means levels labels (suc (suc (suc (suc zero)))) l a b s h = refl
+local-means levels labels (suc (suc (suc (suc (suc zero))))) l a b s h = refl
+local-means levels labels (suc (suc (suc (suc (suc (suc k)))))) l a b s h = absurd (omega arith)
 
 -- A column as long as there are elements has room for a pass where the elements have.
 pub column-room : {F : ℕ → Option ℕ} {n i : ℕ} {f ws : List ℕ} → length f ≡ n → Leads F n f → Room n i ws
@@ -108,23 +93,51 @@ pub column-room : {F : ℕ → Option ℕ} {n i : ℕ} {f ws : List ℕ} → len
 column-room e r room = rw e (room, r .near)
 
 module _ {levels ups lefts : List ℕ} (linked : Linked levels ups lefts) (labels : List ℕ) where
-  -- A pass of the table along the columns leaves what the kind means.
-  pub passed-means : {kind k i n : ℕ} {before after : List ℕ} (a b : ℕ) → Room (length levels) i before → kind ≡ k → n ≡ length levels
-      → Passed n i (passMark n labels (leads ups) (leads lefts) (kindOf k) a (bitsOf before a) (bitsOf before b)) before after
-      → Passed (length levels) i (means levels labels (kindOf kind) a (bitsOf before a) (bitsOf before b)) before after
-  passed-means {kind} {k} {i} {n} {before} {after} a b room e q r =
-      let r′ = rw (q, ups-all linked, lefts-all linked) at r in
-      passed-same room (λ s h. rw e (pass-means levels labels (kindOf k) a (bitsOf before a) (bitsOf before b) s)) r′
+  -- The column of an axis, which leads as the axis is found.
+  abbrev column : Axis → List ℕ
+  column child = ups
+  column parent = ups
+  column next = lefts
+  column previous = lefts
 
-  -- So does the pass of a local kind.
+  column-all : (x : Axis) → (length (column x) ≡ length levels) × (leads (column x) ≡ link levels x)
+  unfolding link
+  column-all child = (linked .ups-long, ups-all linked)
+  column-all parent = (linked .ups-long, ups-all linked)
+  column-all next = (linked .lefts-long, lefts-all linked)
+  column-all previous = (linked .lefts-long, lefts-all linked)
+
+  -- A pass leaves what a kind means.
+  abbrev Meant : (k : Kind) (a b i : ℕ) (before after : List ℕ) → Type 0
+  Meant k a b i before after = Passed (length levels) i (means levels labels k a (bitsOf before a) (bitsOf before b)) before after
+
+  module _ {k : Kind} {i : ℕ} {before after : List ℕ} (a b : ℕ) where
+    -- So does one along the column of an axis, by the kind's shape.
+    pub passed-some : (x : Axis) → k ≡ someAlong x
+        → Passed (length (column x)) i (someOf (direction x) (length (column x)) (leads (column x)) (bitsOf before a)) before after
+        → Meant k a b i before after
+    unfolding means
+    passed-some x e r = rw e (rw (column-all x .0, column-all x .1) at r)
+
+    pub passed-until : (x : Axis) → k ≡ untilAlong x
+        → Passed (length (column x)) i (untilOf (direction x) (length (column x)) (leads (column x)) (bitsOf before a) (bitsOf before b)) before after
+        → Meant k a b i before after
+    unfolding means
+    passed-until x e r = rw e (rw (column-all x .0, column-all x .1) at r)
+
+    pub passed-every : k ≡ everyChild
+        → Passed (length ups) i (everyOf (direction child) (length ups) (leads ups) (bitsOf before a)) before after
+        → Meant k a b i before after
+    unfolding means
+    passed-every e r = rw e (rw (column-all child .0, column-all child .1) at r)
+
+  -- The pass of a local kind leaves what it means.
   pub passed-local : {kind i : ℕ} {before after : List ℕ} (a b : ℕ) → Room (length levels) i before → kind ≤ 5
       → length labels ≡ length levels
       → Passed (length labels) i (λ s. localMark (kindOf kind) a (getD labels s 0) (bitsOf before a s) (bitsOf before b s)) before after
       → Passed (length levels) i (means levels labels (kindOf kind) a (bitsOf before a) (bitsOf before b)) before after
   passed-local {kind} {i} {before} {after} a b room h q r =
-      let r′ = rw q at r in
-      passed-same room (λ s l. pass-local (length levels) labels (parent levels) (previous levels) kind a (bitsOf before a) (bitsOf before b) s h
-      ∙ pass-means levels labels (kindOf kind) a (bitsOf before a) (bitsOf before b) s) r′
+      passed-same room (λ s l. local-means levels labels kind a (bitsOf before a) (bitsOf before b) s h) (rw q at r)
 
   -- Parents are led to from the very next element.
   pub ups-nearest : LegalLevels levels → Nearest Every ups

@@ -10,7 +10,7 @@ use mathlib.Core.List.{List, [], _∷_}
 use mathlib.Core.Logic.{⊎-elim}
 use mathlib.Core.Option.{Option, none, some}
 use borrow.Author.Tests.{lt-ltb, le-ltb, le-leb, ne-eqb}
-use lib.ListN.{length, getD, set, length-set, List·getD-eq-default}
+use lib.ListN.{length, getD, set, drop, replicate, length-set, length-drop, length-replicate, List·getD-eq-default}
 use lib.Seq.{getD-set-same, getD-set-other}
 use Rattle.grammar.specs.Legal.{LegalLevels}
 use Rattle.grammar.proofs.Tells.{ltb-told}
@@ -104,7 +104,7 @@ pub record LinkMid (levels ups lefts held : List ℕ) (depth s : ℕ) : Type 0 w
   pub within : s ≤ length levels
   pub ups-long : length ups ≡ length levels
   pub lefts-long : length lefts ≡ length levels
-  pub held-long : length held ≡ 64
+  pub held-long : 64 ≤ length held
   pub ups-lead : Leads (parent levels) s ups
   pub lefts-lead : Leads (previous levels) s lefts
   pub reach : (k : ℕ) → suc k ≡ s → depth ≡ suc (getD levels k 0)
@@ -113,7 +113,7 @@ pub record LinkMid (levels ups lefts held : List ℕ) (depth s : ℕ) : Type 0 w
 leads-none : (F : ℕ → Option ℕ) (f : List ℕ) → Leads F 0 f
 leads-none F f = record { lead = λ s l. absurd (omega arith); near = λ s l. absurd (omega arith) }
 
-pub link-start : (levels ups lefts held : List ℕ) → length ups ≡ length levels → length lefts ≡ length levels → length held ≡ 64
+pub link-start : (levels ups lefts held : List ℕ) → length ups ≡ length levels → length lefts ≡ length levels → 64 ≤ length held
     → LinkMid levels ups lefts held 0 0
 link-start levels ups lefts held u f h =
     record {
@@ -138,7 +138,7 @@ module _ {levels ups lefts held : List ℕ} {depth s : ℕ} (legal : LegalLevels
   d = getD levels s 0
 
   -- The level of the element in hand is held, or one past those held.
-  d-le : d ≤ depth
+  pub d-le : d ≤ depth
   d-le = go s refl where
     go : (k : ℕ) → s ≡ k → d ≤ depth
     go zero e = rw e (omega (arith, legal .root))
@@ -195,12 +195,96 @@ module _ {levels ups lefts held : List ℕ} {depth s : ℕ} (legal : LegalLevels
         within = omega arith;
         ups-long = length-set ups s _ ∙ mid .ups-long;
         lefts-long = length-set lefts s _ ∙ mid .lefts-long;
-        held-long = length-set held d s ∙ mid .held-long;
+        held-long = omega (arith, length-set held d s, mid .held-long);
         ups-lead = leads-next s _ (omega (arith, mid .ups-long)) (up-is d refl .0) (up-is d refl .1) (mid .ups-lead);
         lefts-lead = leads-next s _ (omega (arith, mid .lefts-long)) (left-is .0) (left-is .1) (mid .lefts-lead);
         reach = λ k e. let q : k ≡ s = omega arith in rw q (add-one d);
         stack = push;
       }
+
+-- ---- the same with one place in front, and the next element's number behind the levels held: what is written stands there
+
+pub record LinkMore (levels ups lefts held : List ℕ) (s : ℕ) : Type 0 where
+  pub depth : ℕ
+  pub mid : LinkMid levels ups lefts (drop 1 held) depth s
+  pub long : length held ≡ 66
+  pub base : getD held 0 0 ≡ 0
+  pub top : getD held (suc depth) 0 ≡ s
+
+getD-behind : (held : List ℕ) (k : ℕ) → getD (drop 1 held) k 0 ≡ getD held (suc k) 0
+getD-behind [] k = refl
+getD-behind (x ∷ xs) k = refl
+
+set-behind : (held : List ℕ) (k v : ℕ) → drop 1 (set held (suc k) v) ≡ set (drop 1 held) k v
+set-behind [] k v = refl
+set-behind (x ∷ xs) k v = refl
+
+getD-front : (held : List ℕ) (k v : ℕ) → getD (set held (suc k) v) 0 0 ≡ getD held 0 0
+getD-front [] k v = refl
+getD-front (x ∷ xs) k v = refl
+
+pub more-start : (levels ups lefts : List ℕ) → length ups ≡ length levels → length lefts ≡ length levels
+    → LinkMore levels ups lefts (replicate 66 0) 0
+more-start levels ups lefts u f =
+    record {
+      depth = 0;
+      mid = link-start levels ups lefts (drop 1 (replicate 66 0)) u f (omega (arith, length-drop 1 (replicate {A = ℕ} 66 0), length-replicate {A = ℕ} 66 0));
+      long = length-replicate {A = ℕ} 66 0;
+      base = refl;
+      top = refl;
+    }
+
+-- A place past those held may have anything.
+unheld : {levels ups lefts held : List ℕ} {depth s : ℕ} (v : ℕ) → LinkMid levels ups lefts held depth s
+    → LinkMid levels ups lefts (set held depth v) depth s
+unheld {held = held} {depth = depth} v m =
+    record {
+      within = m .within;
+      ups-long = m .ups-long;
+      lefts-long = m .lefts-long;
+      held-long = omega (arith, length-set held depth v, m .held-long);
+      ups-lead = m .ups-lead;
+      lefts-lead = m .lefts-lead;
+      reach = m .reach;
+      stack = λ e h. rw (getD-set-other held depth e v 0 (λ z. omega arith)) (m .stack e h);
+    }
+
+module _ {levels ups lefts held : List ℕ} {s : ℕ} (legal : LegalLevels levels) (more : LinkMore levels ups lefts held s)
+    (l : s < length levels) where
+  abbrev at : ℕ
+  at = getD levels s 0
+
+  more-up : (k : ℕ) → at ≡ k → upOf (drop 1 held) k s ≡ getD held k 0
+  more-up zero q = go s refl where
+    go : (k : ℕ) → s ≡ k → s ≡ getD held 0 0
+    go zero e = e ∙ sym (more .base)
+    go (suc k) e = absurd (omega (arith, legal .next k (omega arith) .0, ap (λ (x : ℕ). getD levels x 0) e))
+  more-up (suc k) q = getD-behind held k
+
+  more-left : leftOf (drop 1 held) at (more .depth) s ≡ getD held (suc at) 0
+  more-left =
+      ⊎-elim (λ e. rw (le-ltb at (more .depth) (omega arith)) (sym (more .top) ∙ ap (λ (k : ℕ). getD held (suc k) 0) (sym e)))
+      (λ h. rw (lt-ltb at (more .depth) h) (getD-behind held at)) (eq-or-lt-of-le (d-le legal (more .mid) l))
+
+  abbrev after : List ℕ
+  after = set (set held (suc at) s) (suc (suc at)) (suc s)
+
+  -- One turn.
+  pub more-turn : LinkMore levels (set ups s (getD held at 0)) (set lefts s (getD held (suc at) 0)) after (s + 1)
+  more-turn =
+      record {
+        depth = suc at;
+        mid = rw (set-behind (set held (suc at) s) (suc at) (suc s), set-behind held at s)
+            (unheld (suc s) (rw (more-up at refl, more-left, add-one at) at (link-turn legal (more .mid) l)));
+        long = length-set (set held (suc at) s) (suc (suc at)) (suc s) ∙ length-set held (suc at) s ∙ more .long;
+        base = getD-front (set held (suc at) s) (suc at) (suc s) ∙ getD-front held at s ∙ more .base;
+        top = getD-set-same (set held (suc at) s) (suc (suc at)) (suc s) 0
+            (omega (arith, length-set held (suc at) s, more .long, legal .low s l)) ∙ sym (add-one s);
+      }
+
+  pub more-turn-at : (p q r : ℕ) → p ≡ suc at → q ≡ suc (suc at) → r ≡ suc s
+      → LinkMore levels (set ups s (getD held at 0)) (set lefts s (getD held p 0)) (set (set held p s) q r) r
+  more-turn-at p q r a b e = rw (a, b, e) (rw (add-one s) at more-turn)
 
 -- At the end the columns are linked.
 pub link-end : {levels ups lefts held : List ℕ} {depth s : ℕ} → length levels ≤ s → LinkMid levels ups lefts held depth s

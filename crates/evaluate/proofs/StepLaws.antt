@@ -11,9 +11,9 @@ use mathlib.Core.Option.{Option, none, some}
 use lib.Dec.{leb, ltb, eqb}
 use lib.ListN.{length, getD}
 use Rattle.grammar.proofs.Tells.{Told, holds, fails, told-same, leb-told, or-told, and-told}
-use Rattle.meaning.specs.Marks.{at, anyBelow, allBelow, bitAt}
-use Rattle.meaning.proofs.Tests.{Finds, bool-told, any-told}
-use Rattle.meaning.proofs.OneStep.{backward-step, forward-step}
+use Rattle.meaning.specs.Tree.{forward}
+use Rattle.meaning.specs.Marks.{at, anyBelow, bitAt, someOf, everyOf}
+use Rattle.meaning.proofs.Tests.{Finds, ahead, behind, bool-told, any-told, until-is}
 use Rattle.evaluate.specs.Links.{leads, leadsTo}
 use Rattle.evaluate.specs.Pass.{Passed, Room, bitsOf}
 use Rattle.evaluate.specs.Steps.{gateMark, backStep, backMark, ownStep, givenStep, aheadMark}
@@ -42,9 +42,9 @@ gate-turn {n} {i} {before} {after} g a b s room l r =
 
 -- The mark is the step over the element's own bits and over bit a and the mark where F leads.
 pub back-own : {R : ℕ → ℕ → Type 0} {F : ℕ → Option ℕ} {n : ℕ} → Finds R F n → (until : Bool) (a b : ℕ → Bool) (s : ℕ) → s < n
-    → backMark until F a b s ≡ backStep until (a s) (b s) (at (F s) a) (at (F s) (backMark until F a b))
-unfolding backMark
-back-own finds true a b s l = backward-step finds a b s l
+    → backMark until n F a b s ≡ backStep until (a s) (b s) (at (F s) a) (at (F s) (backMark until n F a b))
+unfolding backMark someOf
+back-own finds true a b s l = until-is (behind finds) a b s l
 back-own finds false a b s l = refl
 
 and-again : (q x : Bool) → (q && (q && x)) ≡ (q && x)
@@ -54,37 +54,25 @@ and-again false x = refl
 -- What the pass reads at an element and where the column leads gives the element's mark.
 pub back-turn : {i : ℕ} {before after : List ℕ} (f : List ℕ) (until : Bool) (a b s : ℕ) → Room (length f) i before → a < i → b < i
     → s < length f → getD f s 0 ≤ s
-    → Passed (length f) i (before-only (backMark until (leads f) (bitsOf before a) (bitsOf before b)) s) before after
+    → Passed (length f) i (before-only (backMark until (length f) (leads f) (bitsOf before a) (bitsOf before b)) s) before after
     → backStep until (bitAt (getD after s 0) a) (bitAt (getD after s 0) b) (ltb (getD f s 0) s && bitAt (getD after (getD f s 0) 0) a)
     (ltb (getD f s 0) s && bitAt (getD after (getD f s 0) 0) i)
-    ≡ backMark until (leads f) (bitsOf before a) (bitsOf before b) s
+    ≡ backMark until (length f) (leads f) (bitsOf before a) (bitsOf before b) s
 back-turn {i} {before} {after} f until a b s room la lb l h r =
     let k : getD f s 0 < length f = omega arith in
     rw (passed-under room r s l a la, passed-under room r s l b lb, passed-under room r (getD f s 0) k a la, passed-bit room r (getD f s 0) k, and-again)
-    (rw (← at-leads s (getD f s 0) (bitsOf before a), ← at-leads s (getD f s 0) (backMark until (leads f) (bitsOf before a) (bitsOf before b)), ← leads-at f s l)
+    (rw (← at-leads s (getD f s 0) (bitsOf before a), ← at-leads s (getD f s 0) (backMark until (length f) (leads f) (bitsOf before a) (bitsOf before b)), ← leads-at f s l)
     (sym (back-own (leads-finds f) until (bitsOf before a) (bitsOf before b) s l)))
 
 -- ---- from the last element on
 
-not-each : (x a p : Bool) → ((not x || a) && not p) ≡ not ((x && not a) || p)
-not-each true true p = refl
-not-each true false p = refl
-not-each false a p = refl
-
--- Every x has a exactly where no x lacks it.
-pub every-none : (n : ℕ) (x a : ℕ → Bool) → allBelow n (λ t. not (x t) || a t) ≡ not (anyBelow n (λ t. x t && not (a t)))
-unfolding allBelow anyBelow
-every-none zero x a = refl
-every-none (suc n) x a = rw (every-none n x a) (not-each (x n) (a n) _)
-
 -- The mark is the step over the element's own bits, over what those give that F leads here, and over whether there are such.
 pub ahead-own : {R : ℕ → ℕ → Type 0} {F : ℕ → Option ℕ} {n : ℕ} → Finds R F n → (look : Look) (a b : ℕ → Bool) (s : ℕ) → s < n
     → aheadMark look n F a b s ≡ ownStep look (a s) (b s)
-    (anyBelow n (λ c. at (F c) (λ u. eqb u s) && givenStep look (a c) (aheadMark look n F a b c))) (anyBelow n (λ c. at (F c) (λ u. eqb u s)))
-unfolding aheadMark
-ahead-own finds Until a b s l = forward-step finds a b s l
-ahead-own {R} {F} {n} finds Every a b s l =
-    ap (λ (q : Bool). anyBelow n (λ c. at (F c) (λ u. eqb u s)) && q) (every-none n (λ c. at (F c) (λ u. eqb u s)) a)
+    (someOf forward n F (λ c. givenStep look (a c) (aheadMark look n F a b c)) s) (someOf forward n F (λ c. true) s)
+unfolding aheadMark everyOf
+ahead-own finds Until a b s l = until-is (ahead finds) a b s l
+ahead-own finds Every a b s l = refl
 
 -- p passes at some number from t on, below n.
 unfoldable pub anyFrom : ℕ → (ℕ → Bool) → ℕ → Bool

@@ -4,10 +4,11 @@ ghost use mathlib.Core.Path.{_≡_};
 ghost use mathlib.Core.Bool.{_&&_};
 ghost use Prim.Native.Nat.{ℕ, _≤_, _<_};
 ghost use lib.ListN.{length, getD};
-ghost use Rattle.meaning.specs.Marks.{bitAt};
+ghost use Rattle.meaning.specs.Tree.{forward};
+ghost use Rattle.meaning.specs.Marks.{bitAt, someOf};
 ghost use Rattle.evaluate.specs.Links.{leads};
 ghost use Rattle.evaluate.specs.Pass.{Passed, Room, bitsOf};
-ghost use Rattle.evaluate.specs.Steps.{gatherMark, ownStep, givenStep, aheadMark, Nearest};
+ghost use Rattle.evaluate.specs.Steps.{ownStep, givenStep, aheadMark, Nearest};
 use crate::word::bit_at;
 use crate::word::bit_where;
 use crate::word::put_bit;
@@ -86,7 +87,7 @@ pub(crate) fn gather_pass(a: usize, i: usize, f: &[u16], marks: &mut [u64])
     requires { ⌜ a < i ⌝ }
     requires { ⌜ Room (length (now f)) i (now marks) ⌝ }
     requires { ⌜ ((s : ℕ) → s < length (now f) → getD (now f) s 0 ≤ s) ⌝ }
-    ensures { λ _. ⌜ Passed (length (now (f .entry))) i (gatherMark (length (now (f .entry))) (leads (now (f .entry))) (bitsOf (now (marks .entry)) a)) (now (marks .entry)) (now (marks .exit)) ⌝ }
+    ensures { λ _. ⌜ Passed (length (now (f .entry))) i (someOf forward (length (now (f .entry))) (leads (now (f .entry))) (bitsOf (now (marks .entry)) a)) (now (marks .entry)) (now (marks .exit)) ⌝ }
 {
     let mut s: usize = 0;
     while s < f.len() {

@@ -38,7 +38,7 @@ pub(crate) fn back_pass(until: bool, a: usize, b: usize, i: usize, f: &[u16], ma
     requires { ⌜ (a < i) × (b < i) ⌝ }
     requires { ⌜ Room (length (now f)) i (now marks) ⌝ }
     requires { ⌜ ((s : ℕ) → s < length (now f) → getD (now f) s 0 ≤ s) ⌝ }
-    ensures { λ _. ⌜ Passed (length (now (f .entry))) i (backMark until (leads (now (f .entry))) (bitsOf (now (marks .entry)) a) (bitsOf (now (marks .entry)) b)) (now (marks .entry)) (now (marks .exit)) ⌝ }
+    ensures { λ _. ⌜ Passed (length (now (f .entry))) i (backMark until (length (now (f .entry))) (leads (now (f .entry))) (bitsOf (now (marks .entry)) a) (bitsOf (now (marks .entry)) b)) (now (marks .entry)) (now (marks .exit)) ⌝ }
 {
     let mut s: usize = 0;
     while s < f.len() {

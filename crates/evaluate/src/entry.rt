@@ -4,7 +4,7 @@ ghost use Prim.Native.Nat.{ℕ, _≤_, _<_};
 ghost use lib.ListN.{length, getD};
 ghost use Rattle.grammar.specs.Legal.{LegalLevels};
 ghost use Rattle.grammar.specs.Rules.{RuleEntries};
-ghost use Rattle.meaning.specs.Meaning.{kindOf};
+ghost use Rattle.records.specs.Kinds.{kindOf};
 ghost use Rattle.meaning.specs.Marks.{means, wordOf};
 ghost use Rattle.evaluate.specs.Links.{Linked};
 ghost use Rattle.evaluate.specs.Pass.{Passed, Stored, Room, bitsOf};

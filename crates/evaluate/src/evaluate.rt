@@ -1,6 +1,6 @@
 // From bytes to marks: the readers' tables, the marking, and the answer.
 ghost use mathlib.Core.Path.{_≡_};
-ghost use Prim.Native.Nat.{_≤_};
+ghost use Prim.Native.Nat.{_*_, _≤_};
 ghost use lib.ListN.{length, take};
 ghost use Rattle.grammar.specs.Legal.{LegalLevels};
 ghost use Rattle.grammar.specs.Rules.{RuleEntries};
@@ -8,8 +8,8 @@ ghost use Rattle.evaluate.specs.Evaluation.{refused, Evaluated, Reported
 ghost use Rattle.grammar.specs.Columns.{tableOf};
 use crate::elements::mark_elements;
 use records::answer::Answer;
-use records::tables::fill_elements;
-use records::tables::fill_entries;
+use records::tables::read_elements;
+use records::tables::read_entries;
 
 // What a whole report is answered: document 01's number, the place, how many elements there are and
 // how many of them are selected. Refused: elements and selected are 0.
@@ -43,19 +43,19 @@ fn weigh(
     n: usize,
     labels: &[u16],
     levels: &[u16],
+    ups: &mut [u16],
+    lefts: &mut [u16],
     marks: &mut [u64],
 ) -> Evaluation
     requires { ⌜ RuleEntries (tableOf entries (now kinds) (now firsts) (now seconds)) ⌝ }
     requires { ⌜ (entries ≤ length (now kinds)) × (entries ≤ length (now firsts)) × (entries ≤ length (now seconds)) ⌝ }
     requires { ⌜ LegalLevels (take n (now levels)) ⌝ }
-    requires { ⌜ (n ≤ length (now labels)) × (n ≤ length (now levels)) × (n ≤ 4096) ⌝ }
+    requires { ⌜ (n ≤ length (now labels)) × (n ≤ length (now levels)) × (n ≤ 4096) × (n ≤ length (now ups)) × (n ≤ length (now lefts)) ⌝ }
     ensures { λ r. ⌜ Weighed (tableOf entries (now (kinds .entry)) (now (firsts .entry)) (now (seconds .entry))) (take n (now (levels .entry))) (take n (now (labels .entry))) (now (marks .entry)) r (now (marks .exit)) ⌝ }
 {
     if marks.len() < n {
         return refuse(9, 0);
     }
-    let mut ups = [0u16; 4096];
-    let mut lefts = [0u16; 4096];
     let selected = mark_elements(
         entries,
         kinds,
@@ -64,8 +64,8 @@ fn weigh(
         n,
         labels,
         levels,
-        &mut ups,
-        &mut lefts,
+        ups,
+        lefts,
         marks,
     );
     Evaluation {
@@ -74,6 +74,138 @@ fn weigh(
         elements: n as u32,
         selected: selected as u32,
     }
+}
+
+// Evaluates a report with an accepted rule's tables, in lent columns that have room for the elements
+// of an accepted report of this length: ten bytes an element.
+fn evaluate_within(
+    entries: usize,
+    kinds: &[u16],
+    firsts: &[u16],
+    seconds: &[u16],
+    report: &[u8],
+    labels: &mut [u16],
+    levels: &mut [u16],
+    ups: &mut [u16],
+    lefts: &mut [u16],
+    marks: &mut [u64],
+) -> Evaluation
+    requires { ⌜ RuleEntries (tableOf entries (now kinds) (now firsts) (now seconds)) ⌝ }
+    requires { ⌜ (entries ≤ length (now kinds)) × (entries ≤ length (now firsts)) × (entries ≤ length (now seconds)) ⌝ }
+    requires { ⌜ (length (now report) ≤ 40960 → length (now report) ≤ 10 * length (now labels)) ⌝ }
+    requires { ⌜ (length (now levels) ≡ length (now labels)) × (length (now ups) ≡ length (now labels)) × (length (now lefts) ≡ length (now labels)) ⌝ }
+    ensures { λ r. ⌜ Reported (tableOf entries (now (kinds .entry)) (now (firsts .entry)) (now (seconds .entry))) (now (report .entry)) (now (marks .entry)) r (now (marks .exit)) ⌝ }
+{
+    match read_elements(report, labels, levels) {
+        Answer::Accepted(n) => weigh(
+            entries,
+            kinds,
+            firsts,
+            seconds,
+            n,
+            labels,
+            levels,
+            ups,
+            lefts,
+            marks,
+        ),
+        Answer::Refused(number, place) => refuse(number, place),
+    }
+}
+
+// The columns of a small report; a short call has little to clear.
+fn evaluate_small(
+    entries: usize,
+    kinds: &[u16],
+    firsts: &[u16],
+    seconds: &[u16],
+    report: &[u8],
+    marks: &mut [u64],
+) -> Evaluation
+    requires { ⌜ RuleEntries (tableOf entries (now kinds) (now firsts) (now seconds)) ⌝ }
+    requires { ⌜ (entries ≤ length (now kinds)) × (entries ≤ length (now firsts)) × (entries ≤ length (now seconds)) ⌝ }
+    requires { ⌜ length (now report) ≤ 640 ⌝ }
+    ensures { λ r. ⌜ Reported (tableOf entries (now (kinds .entry)) (now (firsts .entry)) (now (seconds .entry))) (now (report .entry)) (now (marks .entry)) r (now (marks .exit)) ⌝ }
+{
+    let mut labels = [0u16; 64];
+    let mut levels = [0u16; 64];
+    let mut ups = [0u16; 64];
+    let mut lefts = [0u16; 64];
+    evaluate_within(
+        entries,
+        kinds,
+        firsts,
+        seconds,
+        report,
+        &mut labels,
+        &mut levels,
+        &mut ups,
+        &mut lefts,
+        marks,
+    )
+}
+
+// The columns of a middling report.
+fn evaluate_middle(
+    entries: usize,
+    kinds: &[u16],
+    firsts: &[u16],
+    seconds: &[u16],
+    report: &[u8],
+    marks: &mut [u64],
+) -> Evaluation
+    requires { ⌜ RuleEntries (tableOf entries (now kinds) (now firsts) (now seconds)) ⌝ }
+    requires { ⌜ (entries ≤ length (now kinds)) × (entries ≤ length (now firsts)) × (entries ≤ length (now seconds)) ⌝ }
+    requires { ⌜ length (now report) ≤ 5120 ⌝ }
+    ensures { λ r. ⌜ Reported (tableOf entries (now (kinds .entry)) (now (firsts .entry)) (now (seconds .entry))) (now (report .entry)) (now (marks .entry)) r (now (marks .exit)) ⌝ }
+{
+    let mut labels = [0u16; 512];
+    let mut levels = [0u16; 512];
+    let mut ups = [0u16; 512];
+    let mut lefts = [0u16; 512];
+    evaluate_within(
+        entries,
+        kinds,
+        firsts,
+        seconds,
+        report,
+        &mut labels,
+        &mut levels,
+        &mut ups,
+        &mut lefts,
+        marks,
+    )
+}
+
+// The columns of any report.
+fn evaluate_large(
+    entries: usize,
+    kinds: &[u16],
+    firsts: &[u16],
+    seconds: &[u16],
+    report: &[u8],
+    marks: &mut [u64],
+) -> Evaluation
+    requires { ⌜ RuleEntries (tableOf entries (now kinds) (now firsts) (now seconds)) ⌝ }
+    requires { ⌜ (entries ≤ length (now kinds)) × (entries ≤ length (now firsts)) × (entries ≤ length (now seconds)) ⌝ }
+    ensures { λ r. ⌜ Reported (tableOf entries (now (kinds .entry)) (now (firsts .entry)) (now (seconds .entry))) (now (report .entry)) (now (marks .entry)) r (now (marks .exit)) ⌝ }
+{
+    let mut labels = [0u16; 4096];
+    let mut levels = [0u16; 4096];
+    let mut ups = [0u16; 4096];
+    let mut lefts = [0u16; 4096];
+    evaluate_within(
+        entries,
+        kinds,
+        firsts,
+        seconds,
+        report,
+        &mut labels,
+        &mut levels,
+        &mut ups,
+        &mut lefts,
+        marks,
+    )
 }
 
 // Evaluates a report with an accepted rule's tables.
@@ -89,12 +221,13 @@ fn evaluate_report(
     requires { ⌜ (entries ≤ length (now kinds)) × (entries ≤ length (now firsts)) × (entries ≤ length (now seconds)) ⌝ }
     ensures { λ r. ⌜ Reported (tableOf entries (now (kinds .entry)) (now (firsts .entry)) (now (seconds .entry))) (now (report .entry)) (now (marks .entry)) r (now (marks .exit)) ⌝ }
 {
-    let mut labels = [0u16; 4096];
-    let mut levels = [0u16; 4096];
-    match fill_elements(report, &mut labels, &mut levels) {
-        Answer::Accepted(n) => weigh(entries, kinds, firsts, seconds, n, &labels, &levels, marks),
-        Answer::Refused(number, place) => refuse(number, place),
+    if report.len() <= 640 {
+        return evaluate_small(entries, kinds, firsts, seconds, report, marks);
     }
+    if report.len() <= 5120 {
+        return evaluate_middle(entries, kinds, firsts, seconds, report, marks);
+    }
+    evaluate_large(entries, kinds, firsts, seconds, report, marks)
 }
 
 // Evaluates a rule on a report: a word for each element into the first words of the lent buffer.
@@ -105,7 +238,7 @@ pub extern "C" fn pz_evaluate(rule: &[u8], report: &[u8], marks: &mut [u64]) -> 
     let mut kinds = [0u16; 64];
     let mut firsts = [0u16; 64];
     let mut seconds = [0u16; 64];
-    match fill_entries(rule, &mut kinds, &mut firsts, &mut seconds) {
+    match read_entries(rule, &mut kinds, &mut firsts, &mut seconds) {
         Answer::Accepted(entries) => evaluate_report(
             entries,
             &kinds,

@@ -1,45 +1,27 @@
 // Parents and previous siblings from the levels.
 ghost use mathlib.Core.Path.{_≡_};
-ghost use Prim.Native.Nat.{_<_};
 ghost use lib.ListN.{length};
 ghost use Rattle.grammar.specs.Legal.{LegalLevels};
-ghost use Rattle.evaluate.specs.Links.{Linked, upOf, leftOf};
+ghost use Rattle.evaluate.specs.Links.{Linked};
 use crate::word::wide;
 
-// The parent of the element s at level d: the last element one level up.
-fn up_of(held: &[u16; 64], d: usize, s: u16) -> u16
-    requires { ⌜ d < 64 ⌝ }
-    ensures { λ r. ⌜ r ≡ upOf (now (held .entry)) d s ⌝ }
-{
-    if d == 0 { s } else { held[d - 1] }
-}
-
-// The previous sibling of the element s at level d: the last element at its level, unless s opens a
-// level.
-fn left_of(held: &[u16; 64], d: usize, depth: usize, s: u16) -> u16
-    requires { ⌜ d < 64 ⌝ }
-    ensures { λ r. ⌜ r ≡ leftOf (now (held .entry)) d depth s ⌝ }
-{
-    if d < depth { held[d] } else { s }
-}
-
 // Fills the columns of parents and previous siblings; an element's own number stands where it has
-// none. `held` has the last element of each level up to that of the element before.
+// none. Place d of `held` has the last element one level above d, so the parent of one at level d, and
+// place d + 1 the last at level d; an element that opens puts the number of the one after it where its
+// first child will look for a previous sibling, so that no turn has a branch.
 pub(crate) fn link(levels: &[u16], ups: &mut [u16], lefts: &mut [u16])
     requires { ⌜ LegalLevels (now levels) ⌝ }
     requires { ⌜ (length (now ups) ≡ length (now levels)) × (length (now lefts) ≡ length (now levels)) ⌝ }
     ensures { λ _. ⌜ Linked (now (levels .entry)) (now (ups .exit)) (now (lefts .exit)) ⌝ }
 {
-    let mut held = [0u16; 64];
-    let mut depth: usize = 0;
+    let mut held = [0u16; 66];
     let mut s: usize = 0;
     while s < levels.len() {
         let d = wide(levels[s]);
-        let own = s as u16;
-        ups[s] = up_of(&held, d, own);
-        lefts[s] = left_of(&held, d, depth, own);
-        held[d] = own;
-        depth = d + 1;
+        ups[s] = held[d];
+        lefts[s] = held[d + 1];
+        held[d + 1] = s as u16;
+        held[d + 2] = (s + 1) as u16;
         s += 1;
     }
 }

@@ -3,7 +3,7 @@ ghost use mathlib.Core.Path.{_≡_};
 ghost use Prim.Native.Nat.{_≤_, _<_};
 ghost use lib.Dec.{eqb};
 ghost use lib.ListN.{length, getD};
-ghost use Rattle.meaning.specs.Meaning.{kindOf};
+ghost use Rattle.records.specs.Kinds.{kindOf};
 ghost use Rattle.meaning.specs.Marks.{bitAt};
 ghost use Rattle.evaluate.specs.Pass.{Passed, Room, bitsOf};
 ghost use Rattle.evaluate.specs.Steps.{localMark, gateMark};

@@ -13,8 +13,10 @@ use mathlib.Core.Option.{Option, none, some}
 use borrow.Author.Tests.{le-ltb, le-leb, lt-leb, eq-eqb}
 use lib.ListN.{length, getD}
 use Rattle.grammar.proofs.Tells.{Told, holds, fails, ltb-told, leb-told, eqb-told}
+use Rattle.records.specs.declared.kind.Axis.{Axis}
+use Rattle.records.specs.declared.kind.Axis.the-variants.{Child as child, Parent as toParent, Next as next, Previous as toPrevious}
 use Rattle.meaning.specs.Tree.{Child, Next}
-use Rattle.meaning.specs.Links.{lastUpTo, ifLevel, parentAt, parent, previous}
+use Rattle.meaning.specs.Links.{lastUpTo, ifLevel, parentAt, parent, previous, link}
 
 -- A chosen value is t exactly where the test passes and the value is t.
 pub guard-iff : {P : Type 0} {b : Bool} (o : Option ℕ) (t : ℕ) → Told P b → (cond b o none ≡ some t) ↔ (P × (o ≡ some t))
@@ -168,6 +170,10 @@ pub found-same : {P Q : ℕ → Type 0} (o o′ : Option ℕ) → ((t : ℕ) →
     → ((t : ℕ) → P t → Q t) → ((t : ℕ) → Q t → P t) → o ≡ o′
 found-same o o′ p q f g = some-same o o′ (λ t. (λ e. q t .1 (f t (p t .0 e)), λ e. p t .1 (g t (q t .0 e))))
 
+-- What a function finds backward comes from one element only.
+pub found-only : (R : ℕ → ℕ → Type 0) (f : ℕ → Option ℕ) → ((s t : ℕ) → (f s ≡ some t) ↔ R t s) → {s u t : ℕ} → R s t → R u t → s ≡ u
+found-only R f is {s} {u} {t} p q = cc (is t s .1 p, is t u .1 q)
+
 -- The two lists have the same levels up to s.
 abbrev pub Agree : List ℕ → List ℕ → ℕ → Type 0
 Agree levels levels′ s = (k : ℕ) → k ≤ s → getD levels k 0 ≡ getD levels′ k 0
@@ -202,3 +208,11 @@ module _ (levels levels′ : List ℕ) (s : ℕ) (l : s < length levels) (l′ :
   previous-prefix =
       found-same _ _ (previous-is levels s) (previous-is levels′ s) (λ q. next-kept levels levels′ s q l′ same)
       (λ q. next-kept levels′ levels s q l (λ k m. sym (same k m)))
+
+  -- So does what an axis is found by.
+  pub link-prefix : (x : Axis) → link levels x s ≡ link levels′ x s
+  unfolding link
+  link-prefix child = parent-prefix
+  link-prefix toParent = parent-prefix
+  link-prefix next = previous-prefix
+  link-prefix toPrevious = previous-prefix

@@ -13,16 +13,21 @@ use lib.ListN.{length, getD, List·getD-eq-default}
 use Rattle.records.specs.declared.rule.Entry.{Entry}
 use Rattle.records.specs.Tags.{Tag, opens, depth, levelsFrom, levels, labels, opened}
 use Rattle.records.proofs.TagLaws.{levels-append, labels-append, levels-count}
+use Rattle.records.proofs.First.{clash}
 use Rattle.grammar.specs.Rules.{noEntry}
-use Rattle.meaning.specs.Links.{parent, previous}
-use Rattle.meaning.specs.Meaning.{Kind, kindOf}
-use Rattle.meaning.specs.Marks.{at, backward, means, below, mark, wordOf, verdict}
+use Rattle.meaning.specs.Links.{link}
+use Rattle.records.specs.declared.kind.Axis.{Axis}
+use Rattle.meaning.specs.Tree.{backward, direction}
+use Rattle.records.specs.declared.kind.Kind.{Kind}
+use Rattle.records.specs.declared.kind.Kind.the-variants.{Nothing as nothing, Here as local, SomeAlong as someAlong, UntilAlong as untilAlong, EveryChild as everyChild}
+use Rattle.records.specs.Kinds.{kindOf}
+use Rattle.meaning.specs.Meaning.{kindLooksBack}
+use Rattle.meaning.specs.Marks.{at, someOf, untilOf, means, below, mark, wordOf, verdict}
 use Rattle.meaning.specs.OnePass.{LooksBack}
-use Rattle.meaning.proofs.Links.{Agree, parent-prefix, previous-prefix}
-use Rattle.meaning.proofs.Tests.{Finds}
-use Rattle.meaning.proofs.Reflect.{parent-finds, previous-finds}
-use Rattle.meaning.proofs.OneStep.{backward-step}
-use Rattle.meaning.proofs.LooksBack.{Looks, looks-of, looks-always, looks-label, looks-not, looks-or, looks-and, looks-parent, looks-previous, looks-up, looks-left}
+use Rattle.meaning.proofs.Links.{Agree, link-prefix}
+use Rattle.meaning.proofs.Tests.{found-down, until-is}
+use Rattle.meaning.proofs.Reflect.{axis-along}
+use Rattle.meaning.proofs.LooksBack.{looks-is, leads-back}
 use Rattle.meaning.proofs.Words.{word-same}
 
 -- Tests that agree at the element that is found pass alike there.
@@ -38,41 +43,33 @@ pick-same false s f g f′ g′ e d = d
 abbrev Alike : ℕ → (ℕ → Bool) → (ℕ → Bool) → Type 0
 Alike s p q = (t : ℕ) → t ≤ s → p t ≡ q t
 
--- A way backward from s depends on what is found from elements up to s only.
-backward-same : {R R′ : ℕ → ℕ → Type 0} {f f′ : ℕ → Option ℕ} {n n′ : ℕ} → Finds R f n → Finds R′ f′ n′ → (a b a′ b′ : ℕ → Bool) (s : ℕ)
-    → s < n → s < n′ → ((t : ℕ) → t ≤ s → f t ≡ f′ t) → Alike s a a′ → Alike s b b′
-    → (m t : ℕ) → t < m → t ≤ s → backward f a b t ≡ backward f′ a′ b′ t
-backward-same F F′ a b a′ b′ s l l′ ef ea eb zero t lm ls = absurd (not-suc-le-zero lm)
-backward-same {f} {f′} F F′ a b a′ b′ s l l′ ef ea eb (suc m) t lm ls =
-    let next = at-same (f′ t) (backward f a b) (backward f′ a′ b′) (λ u e. let d = F′ .down t u e in
-    backward-same F F′ a b a′ b′ s l l′ ef ea eb m u (omega arith) (omega arith)) in
-    backward-step F a b t (omega arith) ∙ rw (ea t ls, eb t ls, ef t ls, next) refl ∙ sym (backward-step F′ a′ b′ t (omega arith))
-
 module _ (levels levels′ labels labels′ : List ℕ) (s : ℕ) (l : s < length levels) (l′ : s < length levels′)
     (same : Agree levels levels′ s) (named : Agree labels labels′ s) where
-  parent-same : (t : ℕ) → t ≤ s → parent levels t ≡ parent levels′ t
-  parent-same t m = parent-prefix levels levels′ t (omega arith) (omega arith) (λ k i. same k (omega arith))
+  -- What an axis that leads back asks of s depends on levels and marks up to s only.
+  some-same : (x : Axis) → direction x ≡ backward → (a a′ : ℕ → Bool) (t : ℕ) → t ≤ s → ((u : ℕ) → u < t → a u ≡ a′ u)
+      → someOf (direction x) (length levels) (link levels x) a t ≡ someOf (direction x) (length levels′) (link levels′ x) a′ t
+  unfolding someOf
+  some-same x d a a′ t m e =
+      rw (d, link-prefix levels levels′ t (omega arith) (omega arith) (λ k i. same k (omega arith)) x)
+      (at-same (link levels′ x t) a a′ (λ u h. e u (found-down (axis-along levels′ x) t u h)))
 
-  previous-same : (t : ℕ) → t ≤ s → previous levels t ≡ previous levels′ t
-  previous-same t m = previous-prefix levels levels′ t (omega arith) (omega arith) (λ k i. same k (omega arith))
+  until-same : (x : Axis) → direction x ≡ backward → (a b a′ b′ : ℕ → Bool) → Alike s a a′ → Alike s b b′ → (m t : ℕ) → t < m → t ≤ s
+      → untilOf (direction x) (length levels) (link levels x) a b t ≡ untilOf (direction x) (length levels′) (link levels′ x) a′ b′ t
+  until-same x d a b a′ b′ ea eb zero t lm ls = absurd (not-suc-le-zero lm)
+  until-same x d a b a′ b′ ea eb (suc m) t lm ls =
+      until-is (axis-along levels x) a b t (omega arith)
+      ∙ rw (ea t ls, eb t ls, some-same x d _ _ t ls (λ u h. until-same x d a b a′ b′ ea eb m u (omega arith) (omega arith)))
+      (sym (until-is (axis-along levels′ x) a′ b′ t (omega arith)))
 
   module _ (label : ℕ) (a b a′ b′ : ℕ → Bool) (ea : Alike s a a′) (eb : Alike s b b′) (t : ℕ) (m : t ≤ s) where
     -- A kind that looks back asks nothing past s.
-    means-same : {k : Kind} → Looks (Unit {0}) k → means levels labels k label a b t ≡ means levels′ labels′ k label a′ b′ t
-    unfolding means
-    means-same looks-always = refl
-    means-same looks-label = rw (named t m)
-    means-same (looks-not _) = rw (ea t m)
-    means-same (looks-or _) = rw (ea t m, eb t m)
-    means-same (looks-and _) = rw (ea t m, eb t m)
-    means-same (looks-parent _) =
-        rw (parent-same t m) (at-same (parent levels′ t) a a′ (λ u e. ea u (omega (arith, parent-finds levels′ .down t u e))))
-    means-same (looks-previous _) =
-        rw (previous-same t m) (at-same (previous levels′ t) a a′ (λ u e. ea u (omega (arith, previous-finds levels′ .down t u e))))
-    means-same (looks-up _) =
-        backward-same (parent-finds levels) (parent-finds levels′) a b a′ b′ s l l′ parent-same ea eb (suc t) t (omega arith) m
-    means-same (looks-left _) =
-        backward-same (previous-finds levels) (previous-finds levels′) a b a′ b′ s l l′ previous-same ea eb (suc t) t (omega arith) m
+    means-same : (k : Kind) → kindLooksBack k ≡ true → means levels labels k label a b t ≡ means levels′ labels′ k label a′ b′ t
+    unfolding means kindLooksBack
+    means-same nothing e = refl
+    means-same (local k) e = rw (named t m, ea t m, eb t m)
+    means-same (someAlong x) e = some-same x (leads-back _ e) a a′ t m (λ u h. ea u (omega arith))
+    means-same (untilAlong x) e = until-same x (leads-back _ e) a b a′ b′ ea eb (suc t) t (omega arith) m
+    means-same everyChild e = clash e refl
 
   module _ (entries : List Entry) (back : LooksBack entries) where
     entry-same : (k : ℕ) (a b a′ b′ : ℕ → Bool) → Alike s a a′ → Alike s b b′ → (t : ℕ) → t ≤ s
@@ -81,7 +78,7 @@ module _ (levels levels′ labels labels′ : List ℕ) (s : ℕ) (l : s < lengt
     unfolding means
     entry-same k a b a′ b′ ea eb t m =
         elim (decLt k (length entries)) [
-          | yes i ↦ means-same (getD entries k noEntry .a) a b a′ b′ ea eb t m (looks-of (getD entries k noEntry .kind) (back k i) (λ x. tt))
+          | yes i ↦ means-same (getD entries k noEntry .a) a b a′ b′ ea eb t m (kindOf (getD entries k noEntry .kind)) (sym (looks-is _) ∙ back k i)
           | no i ↦ let n : length entries ≤ k = omega arith in rw (List·getD-eq-default entries noEntry n)
         ]
 

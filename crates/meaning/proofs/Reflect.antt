@@ -10,12 +10,19 @@ use lib.ListN.{length, getD}
 use Rattle.records.specs.declared.rule.Entry.{Entry}
 use Rattle.grammar.specs.Rules.{noEntry}
 use Rattle.grammar.proofs.Tells.{Told, holds, fails, true-iff, eqb-told, or-told, and-told, not-told}
-use Rattle.meaning.specs.Tree.{Child, Next}
-use Rattle.meaning.specs.Links.{parent, previous}
-use Rattle.meaning.specs.Meaning.{Kind, kindOf, nothing, always, hasLabel, negation, disjunction, conjunction, someChild, atParent, atNext, atPrevious, down, up, right, left, everyChild, Means, Below, Holds}
-use Rattle.meaning.specs.Marks.{means, below, mark, bitAt, wordOf, verdict}
+use Rattle.records.specs.declared.kind.Axis.{Axis}
+use Rattle.records.specs.declared.kind.Axis.the-variants.{Child as child, Parent as toParent, Next as next, Previous as toPrevious}
+use Rattle.meaning.specs.Tree.{Child, Next, Neighbour, direction}
+use Rattle.meaning.specs.Links.{parent, previous, link}
+use Rattle.records.specs.declared.kind.Local.{Local}
+use Rattle.records.specs.declared.kind.Local.the-variants.{Always as always, HasLabel as hasLabel, Negation as negation, Disjunction as disjunction, Conjunction as conjunction}
+use Rattle.records.specs.declared.kind.Kind.{Kind}
+use Rattle.records.specs.declared.kind.Kind.the-variants.{Nothing as nothing, Here as local, SomeAlong as someAlong, UntilAlong as untilAlong, EveryChild as everyChild}
+use Rattle.records.specs.Kinds.{kindOf}
+use Rattle.meaning.specs.Meaning.{MeansHere, Means, Below, Holds}
+use Rattle.meaning.specs.Marks.{meansHere, means, below, mark, bitAt, wordOf, verdict}
 use Rattle.meaning.proofs.Links.{parent-is, parent-down, previous-is, previous-down}
-use Rattle.meaning.proofs.Tests.{ToldBelow, Finds, back-told, some-told, every-told, until-told, until-back-told}
+use Rattle.meaning.proofs.Tests.{ToldBelow, Finds, Along, ahead, behind, nearer, some-told, every-told, until-told}
 use Rattle.meaning.proofs.Words.{wordOf-bit, verdict-is}
 
 -- Parents find the child relation among a report's elements, and previous siblings the next-sibling relation.
@@ -27,27 +34,38 @@ pub previous-finds : (levels : List ℕ) → Finds (Next levels) (previous level
 previous-finds levels =
     record { is = previous-is levels; down = previous-down levels; inside = λ s t e. previous-is levels s t .0 e .element }
 
+-- So each axis is found by its link.
+pub axis-along : (levels : List ℕ) (x : Axis) → Along (link levels x) (length levels) (direction x) (Neighbour levels x)
+unfolding link direction Neighbour
+axis-along levels child = ahead (parent-finds levels)
+axis-along levels toParent = behind (parent-finds levels)
+axis-along levels next = ahead (previous-finds levels)
+axis-along levels toPrevious = behind (previous-finds levels)
+
+-- Kinds 1 to 5.
+here-told : {A B : Type 0} {a b : Bool} (k : Local) (label own : ℕ) → Told A a → Told B b
+    → Told (MeansHere k label own A B) (meansHere k label own a b)
+unfolding MeansHere meansHere
+here-told always label own ha hb = holds tt
+here-told hasLabel label own ha hb = eqb-told own label
+here-told negation label own ha hb = not-told ha
+here-told disjunction label own ha hb = or-told ha hb
+here-told conjunction label own ha hb = and-told ha hb
+
 module _ (levels labels : List ℕ) where
   module _ (label : ℕ) (A B : ℕ → Type 0) (a b : ℕ → Bool)
       (ha : ToldBelow (length levels) A a) (hb : ToldBelow (length levels) B b) (s : ℕ) (l : s < length levels) where
+    near : (x : Axis) (t : ℕ) → Neighbour levels x s t → Told (A t) (a t)
+    near x t q = ha t (nearer (axis-along levels x) s t l q .0)
+
     -- The test of a kind tells what the kind means, where the tests of a and b do.
     pub means-told : (k : Kind) → Told (Means levels labels k label A B s) (means levels labels k label a b s)
     unfolding Means means
     means-told nothing = fails (λ x. x)
-    means-told always = holds tt
-    means-told hasLabel = eqb-told (getD labels s 0) label
-    means-told negation = not-told (ha s l)
-    means-told disjunction = or-told (ha s l) (hb s l)
-    means-told conjunction = and-told (ha s l) (hb s l)
-    means-told someChild = some-told _ _ _ (parent-finds levels) A a ha s
-    means-told atParent = back-told _ _ _ (parent-finds levels) A a ha s l
-    means-told atNext = some-told _ _ _ (previous-finds levels) A a ha s
-    means-told atPrevious = back-told _ _ _ (previous-finds levels) A a ha s l
-    means-told down = until-told _ _ _ (parent-finds levels) A B a b ha hb s l
-    means-told up = until-back-told _ _ _ (parent-finds levels) A B a b ha hb s l
-    means-told right = until-told _ _ _ (previous-finds levels) A B a b ha hb s l
-    means-told left = until-back-told _ _ _ (previous-finds levels) A B a b ha hb s l
-    means-told everyChild = every-told _ _ _ (parent-finds levels) A a ha s
+    means-told (local k) = here-told k label (getD labels s 0) (ha s l) (hb s l)
+    means-told (someAlong x) = some-told (axis-along levels x) s (near x)
+    means-told (untilAlong x) = until-told (axis-along levels x) ha hb s l
+    means-told everyChild = every-told (axis-along levels child) s (near child)
 
   pick-told : (q : Bool) (s : ℕ) (P P′ : ℕ → Type 0) (p p′ : ℕ → Bool) → Told (P s) (p s) → Told (P′ s) (p′ s)
       → Told (cond q P P′ s) (cond q p p′ s)

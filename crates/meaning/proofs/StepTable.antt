@@ -2,23 +2,31 @@
 -- the parent's word and the previous sibling's. Assumes nothing.
 use Prim.Native.Nat.{ℕ, zero, suc, _≤_, _<_}
 use native.Mathlib.Nat.{zero-div}
+use native.Mathlib.Decide.{decLt}
 use native.Mathlib.Omega.{arith}
-use mathlib.Core.Path.{_≡_, refl, sym}
-use mathlib.Core.Bool.{Bool, _&&_, _||_}
+use mathlib.Core.Path.{_≡_, refl, sym, _∙_}
+use mathlib.Core.Bool.{Bool, true, _&&_, _||_}
 use mathlib.Core.List.{List}
 use mathlib.Core.Option.{Option, none, some}
 use lib.ListN.{length, getD}
 use Rattle.records.specs.declared.rule.Entry.{Entry}
+use Rattle.records.proofs.First.{clash}
 use Rattle.grammar.specs.Rules.{noEntry, RuleEntries}
 use Rattle.grammar.proofs.Entries.{formed-a, formed-b}
-use Rattle.meaning.specs.Links.{parent, previous}
-use Rattle.meaning.specs.Meaning.{Kind}
-use Rattle.meaning.specs.Marks.{at, backward, means, mark, bitAt, word, wordOf}
-use Rattle.meaning.specs.OnePass.{LooksBack, stepBit, stepWord}
-use Rattle.meaning.proofs.Tests.{Finds}
-use Rattle.meaning.proofs.Reflect.{parent-finds, previous-finds}
-use Rattle.meaning.proofs.OneStep.{backward-step, mark-rule}
-use Rattle.meaning.proofs.LooksBack.{Looks, looks-of, looks-always, looks-label, looks-not, looks-or, looks-and, looks-parent, looks-previous, looks-up, looks-left}
+use Rattle.records.specs.declared.kind.Axis.{Axis}
+use Rattle.records.specs.declared.kind.Axis.the-variants.{Child as child, Parent as toParent, Next as next, Previous as toPrevious}
+use Rattle.meaning.specs.Tree.{direction}
+use Rattle.meaning.specs.Links.{parent, previous, link}
+use Rattle.records.specs.declared.kind.Kind.{Kind}
+use Rattle.records.specs.declared.kind.Kind.the-variants.{Nothing as nothing, Here as local, SomeAlong as someAlong, UntilAlong as untilAlong, EveryChild as everyChild}
+use Rattle.records.specs.Kinds.{kindOf}
+use Rattle.meaning.specs.Meaning.{isBackward, kindLooksBack}
+use Rattle.meaning.specs.Marks.{at, someOf, meansHere, means, mark, bitAt, word, wordOf}
+use Rattle.meaning.specs.OnePass.{LooksBack, wordTo, stepBit, stepWord}
+use Rattle.meaning.proofs.Tests.{until-is}
+use Rattle.meaning.proofs.Reflect.{axis-along}
+use Rattle.meaning.proofs.OneStep.{mark-rule}
+use Rattle.meaning.proofs.LooksBack.{looks-is}
 use Rattle.meaning.proofs.Words.{word-bit, wordOf-bit}
 
 -- The word of an element that is found; 0 where there is none.
@@ -37,29 +45,41 @@ module _ (entries : List Entry) (rule : RuleEntries entries) (back : LooksBack e
   found-bit none i l = rw zero-div
   found-bit (some t) i l = wordOf-bit entries levels labels i t l
 
+  -- Bit i of the word that an axis leads back to is the mark there.
+  back-bit : (x : Axis) → isBackward (direction x) ≡ true → (s i : ℕ) → i < length entries
+      → bitAt (wordTo x (foundWord W (parent levels s)) (foundWord W (previous levels s))) i
+      ≡ someOf (direction x) (length levels) (link levels x) (M i) s
+  unfolding isBackward direction wordTo someOf link
+  back-bit child e s i l = clash e refl
+  back-bit toParent e s i l = found-bit (parent levels s) i l
+  back-bit next e s i l = clash e refl
+  back-bit toPrevious e s i l = found-bit (previous levels s) i l
+
   module _ (s i a b : ℕ) (ls : s < length levels) (li : i < length entries) where
     abbrev w : ℕ
     w = word i (λ j. M j s)
 
-    since : {R : ℕ → ℕ → Type 0} {f : ℕ → Option ℕ} → Finds R f (length levels) → mark levels labels entries i ≡ backward f (M a) (M b)
-        → (a < i) × (b < i) → (bitAt w b || (bitAt w a && bitAt (foundWord W (f s)) i)) ≡ backward f (M a) (M b) s
-    since {f} F e p =
-        rw (word-bit i a (λ j. M j s) (p .0), word-bit i b (λ j. M j s) (p .1), found-bit (f s) i li, e) (sym (backward-step F (M a) (M b) s ls))
-
     -- The step table's bit of a kind that looks back is what the kind means.
-    step-means : {k : Kind} → Looks ((a < i) × (b < i)) k → mark levels labels entries i ≡ means levels labels k a (M a) (M b)
+    step-means : (k : Kind) → kindLooksBack k ≡ true → (a < i) × (b < i) → mark levels labels entries i ≡ means levels labels k a (M a) (M b)
         → stepBit k a b i (getD labels s 0) w (foundWord W (parent levels s)) (foundWord W (previous levels s))
         ≡ means levels labels k a (M a) (M b) s
-    unfolding stepBit means
-    step-means looks-always e = refl
-    step-means looks-label e = refl
-    step-means (looks-not p) e = rw (word-bit i a (λ j. M j s) (p .0))
-    step-means (looks-or p) e = rw (word-bit i a (λ j. M j s) (p .0), word-bit i b (λ j. M j s) (p .1))
-    step-means (looks-and p) e = rw (word-bit i a (λ j. M j s) (p .0), word-bit i b (λ j. M j s) (p .1))
-    step-means (looks-parent p) e = found-bit (parent levels s) a (omega arith)
-    step-means (looks-previous p) e = found-bit (previous levels s) a (omega arith)
-    step-means (looks-up p) e = since (parent-finds levels) e p
-    step-means (looks-left p) e = since (previous-finds levels) e p
+    unfolding stepBit means kindLooksBack
+    step-means nothing e p is = refl
+    step-means (local k) e p is = rw (word-bit i a (λ j. M j s) (p .0), word-bit i b (λ j. M j s) (p .1))
+    step-means (someAlong x) e p is = back-bit x e s a (omega arith)
+    step-means (untilAlong x) e p is =
+        rw (word-bit i a (λ j. M j s) (p .0), word-bit i b (λ j. M j s) (p .1), back-bit x e s i li, is)
+        (sym (until-is (axis-along levels x) (M a) (M b) s ls))
+    step-means everyChild e p is = clash e refl
+
+    -- So it is for kinds 1 and 2, whatever a and b are.
+    step-plain : (k : ℕ) → k < 3 → stepBit (kindOf k) a b i (getD labels s 0) w (foundWord W (parent levels s)) (foundWord W (previous levels s))
+        ≡ means levels labels (kindOf k) a (M a) (M b) s
+    unfolding stepBit means meansHere
+    step-plain zero l = refl
+    step-plain (suc zero) l = refl
+    step-plain (suc (suc zero)) l = refl
+    step-plain (suc (suc (suc k))) l = absurd (omega arith)
 
   step-marks : (s : ℕ) → s < length levels → (m : ℕ) → m ≤ length entries
       → stepWord entries (getD labels s 0) (foundWord W (parent levels s)) (foundWord W (previous levels s)) m ≡ word m (λ i. M i s)
@@ -69,8 +89,13 @@ module _ (entries : List Entry) (rule : RuleEntries entries) (back : LooksBack e
       let e = getD entries m noEntry in
       let is = mark-rule levels labels entries rule m lm in
       let f = rule .formed m lm in
-      let looks = looks-of {P = (e .a < m) × (e .b < m)} (e .kind) (back m lm) (λ x. (formed-a m e f x, formed-b m e f x)) in
-      rw (step-marks s ls m (omega arith), step-means s m (e .a) (e .b) ls lm looks is, is)
+      let one : stepBit (kindOf (e .kind)) (e .a) (e .b) m (getD labels s 0) (word m (λ i. M i s)) (foundWord W (parent levels s)) (foundWord W (previous levels s))
+      ≡ means levels labels (kindOf (e .kind)) (e .a) (M (e .a)) (M (e .b)) s =
+      elim (decLt (e .kind) 3) [
+        | yes l ↦ step-plain s m (e .a) (e .b) ls lm (e .kind) l
+        | no l ↦ step-means s m (e .a) (e .b) ls lm (kindOf (e .kind)) (sym (looks-is (e .kind)) ∙ back m lm)
+            (formed-a m e f (omega arith), formed-b m e f (omega arith)) is
+      ] in rw (step-marks s ls m (omega arith), one, is)
 
   -- The step table gives the word of element s from its label, its parent's word and its previous sibling's.
   pub step-word : (s : ℕ) → s < length levels

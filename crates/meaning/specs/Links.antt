@@ -6,6 +6,8 @@ use mathlib.Core.List.{List}
 use mathlib.Core.Option.{Option, none, some}
 use lib.Dec.{leb, ltb, eqb}
 use lib.ListN.{length, getD}
+use Rattle.records.specs.declared.kind.Axis.{Axis}
+use Rattle.records.specs.declared.kind.Axis.the-variants.{Child as child, Parent as toParent, Next as next, Previous as toPrevious}
 
 -- The last element before s whose level is at most d.
 unfoldable pub lastUpTo : List ℕ → ℕ → ℕ → Option ℕ
@@ -29,14 +31,12 @@ parent levels s = cond (ltb s (length levels)) (parentAt levels (getD levels s 0
 unfoldable pub previous : List ℕ → ℕ → Option ℕ
 previous levels s = cond (ltb s (length levels)) (ifLevel levels (getD levels s 0) (lastUpTo levels (getD levels s 0) s)) none
 
--- k steps of f from s.
-unfoldable pub then : (ℕ → Option ℕ) → Option ℕ → Option ℕ
-then f none = none
-then f (some t) = f t
-
-unfoldable pub steps : (ℕ → Option ℕ) → ℕ → ℕ → Option ℕ
-steps f zero s = some s
-steps f (suc k) s = then f (steps f k s)
+-- What an axis is found by: child and parent by the parent of an element, next and previous by its previous sibling.
+unfoldable pub link : List ℕ → Axis → ℕ → Option ℕ
+link levels child = parent levels
+link levels toParent = parent levels
+link levels next = previous levels
+link levels toPrevious = previous levels
 
 -- There is such an element, and P holds at it.
 abbrev pub At : Option ℕ → (ℕ → Type 0) → Type 0

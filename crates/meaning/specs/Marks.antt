@@ -9,52 +9,59 @@ use lib.Dec.{eqb}
 use lib.ListN.{length, getD}
 use Rattle.records.specs.declared.rule.Entry.{Entry}
 use Rattle.grammar.specs.Rules.{noEntry}
-use Rattle.meaning.specs.Links.{parent, previous, steps}
-use Rattle.meaning.specs.Meaning.{Kind, kindOf, nothing, always, hasLabel, negation, disjunction, conjunction, someChild, atParent, atNext, atPrevious, down, up, right, left, everyChild}
+use Rattle.records.specs.declared.kind.Axis.the-variants.{Child as child}
+use Rattle.meaning.specs.Tree.{Direction, forward, backward, direction}
+use Rattle.meaning.specs.Links.{link}
+use Rattle.records.specs.declared.kind.Local.{Local}
+use Rattle.records.specs.declared.kind.Local.the-variants.{Always as always, HasLabel as hasLabel, Negation as negation, Disjunction as disjunction, Conjunction as conjunction}
+use Rattle.records.specs.declared.kind.Kind.{Kind}
+use Rattle.records.specs.declared.kind.Kind.the-variants.{Nothing as nothing, Here as local, SomeAlong as someAlong, UntilAlong as untilAlong, EveryChild as everyChild}
+use Rattle.records.specs.Kinds.{kindOf}
 
 -- There is such an element, and p passes at it.
 abbrev pub at : Option ℕ → (ℕ → Bool) → Bool
 at none p = false
 at (some t) p = p t
 
--- p passes at some number, or at every number, below n.
+-- p passes at some number below n.
 unfoldable pub anyBelow : ℕ → (ℕ → Bool) → Bool
 anyBelow zero p = false
 anyBelow (suc n) p = p n || anyBelow n p
 
-unfoldable pub allBelow : ℕ → (ℕ → Bool) → Bool
-allBelow zero p = true
-allBelow (suc n) p = p n && allBelow n p
+-- The tests of a step along an axis with that direction, found by f among n elements: a passes at some neighbour of s. Backward it
+-- is where f leads; forward each element that f leads from to s.
+unfoldable pub someOf : Direction → ℕ → (f : ℕ → Option ℕ) (a : ℕ → Bool) → ℕ → Bool
+someOf backward n f a s = at (f s) a
+someOf forward n f a s = anyBelow n (λ t. at (f t) (λ p. eqb p s) && a t)
 
--- b passes at s or some steps of f on, and a at s and at each element before that one.
-unfoldable pub backward : (ℕ → Option ℕ) → (a b : ℕ → Bool) → ℕ → Bool
-backward f a b s = anyBelow (suc s) (λ k. at (steps f k s) b && allBelow k (λ j. at (steps f j s) a))
+-- There is a neighbour, and none at which a does not pass.
+unfoldable pub everyOf : Direction → ℕ → (f : ℕ → Option ℕ) (a : ℕ → Bool) → ℕ → Bool
+everyOf d n f a s = someOf d n f (λ t. true) s && not (someOf d n f (λ t. not (a t)) s)
 
--- b passes at one of n elements from which some steps of f lead to s, and a at s and at each element between.
-unfoldable pub forward : ℕ → (ℕ → Option ℕ) → (a b : ℕ → Bool) → ℕ → Bool
-forward n f a b s =
-    anyBelow n (λ t. b t && anyBelow (suc t) (λ k. at (steps f k t) (λ u. eqb u s) && allBelow k (λ j. at (steps f (suc j) t) a)))
+-- b passes at s, or a at s and the same at some neighbour, over fewer than k steps: a way among n elements has fewer than n.
+unfoldable pub untilIn : Direction → ℕ → (f : ℕ → Option ℕ) (a b : ℕ → Bool) (k : ℕ) → ℕ → Bool
+untilIn d n f a b zero s = false
+untilIn d n f a b (suc k) s = b s || (a s && someOf d n f (untilIn d n f a b k) s)
+
+unfoldable pub untilOf : Direction → ℕ → (f : ℕ → Option ℕ) (a b : ℕ → Bool) → ℕ → Bool
+untilOf d n f a b s = untilIn d n f a b n s
+
+-- Kinds 1 to 5, as tests.
+unfoldable pub meansHere : Local → (label own : ℕ) (a b : Bool) → Bool
+meansHere always label own a b = true
+meansHere hasLabel label own a b = eqb own label
+meansHere negation label own a b = not a
+meansHere disjunction label own a b = a || b
+meansHere conjunction label own a b = a && b
 
 module _ (levels labels : List ℕ) where
-  -- The table of kinds, as tests.
+  -- The kinds, as tests.
   unfoldable pub means : Kind → (label : ℕ) (a b : ℕ → Bool) → ℕ → Bool
   means nothing label a b s = false
-  means always label a b s = true
-  means hasLabel label a b s = eqb (getD labels s 0) label
-  means negation label a b s = not (a s)
-  means disjunction label a b s = a s || b s
-  means conjunction label a b s = a s && b s
-  means someChild label a b s = anyBelow (length levels) (λ t. at (parent levels t) (λ p. eqb p s) && a t)
-  means atParent label a b s = at (parent levels s) a
-  means atNext label a b s = anyBelow (length levels) (λ t. at (previous levels t) (λ p. eqb p s) && a t)
-  means atPrevious label a b s = at (previous levels s) a
-  means down label a b s = forward (length levels) (parent levels) a b s
-  means up label a b s = backward (parent levels) a b s
-  means right label a b s = forward (length levels) (previous levels) a b s
-  means left label a b s = backward (previous levels) a b s
-  means everyChild label a b s =
-      anyBelow (length levels) (λ t. at (parent levels t) (λ p. eqb p s))
-      && allBelow (length levels) (λ t. not (at (parent levels t) (λ p. eqb p s)) || a t)
+  means (local k) label a b s = meansHere k label (getD labels s 0) (a s) (b s)
+  means (someAlong x) label a b s = someOf (direction x) (length levels) (link levels x) a s
+  means (untilAlong x) label a b s = untilOf (direction x) (length levels) (link levels x) a b s
+  means everyChild label a b s = everyOf (direction child) (length levels) (link levels child) a s
 
   module _ (entries : List Entry) where
     abbrev entry : ℕ → Entry

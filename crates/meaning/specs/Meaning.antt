@@ -5,54 +5,56 @@
 -- Laws: proofs/Reflect.antt (the computing form), proofs/OneStep.antt (what an engine may use). Assumes nothing.
 use Prim.Native.Nat.{ℕ, zero, suc}
 use mathlib.Core.Path.{_≡_}
-use mathlib.Core.Bool.{cond}
+use mathlib.Core.Bool.{Bool, true, false, cond}
 use mathlib.Core.Logic.{_⊎_}
 use mathlib.Core.List.{List, [], _∷_}
 use lib.Dec.{eqb}
 use lib.ListN.{getD}
 use Rattle.records.specs.declared.rule.Entry.{Entry}
+use Rattle.records.specs.declared.kind.Local.{Local}
+use Rattle.records.specs.declared.kind.Local.the-variants.{Always as always, HasLabel as hasLabel, Negation as negation, Disjunction as disjunction, Conjunction as conjunction}
+use Rattle.records.specs.declared.kind.Kind.{Kind}
+use Rattle.records.specs.declared.kind.Kind.the-variants.{Nothing as nothing, Here as local, SomeAlong as someAlong, UntilAlong as untilAlong, EveryChild as everyChild}
+use Rattle.records.specs.Kinds.{kindOf}
 use Rattle.grammar.specs.Rules.{noEntry}
-use Rattle.meaning.specs.Tree.{Child, Next, Back, Star}
+use Rattle.records.specs.declared.kind.Axis.{Axis}
+use Rattle.records.specs.declared.kind.Axis.the-variants.{Child as child, Parent as parent, Next as next, Previous as previous}
+use Rattle.meaning.specs.Tree.{Neighbour, Direction, forward, backward, direction, Star}
 
--- The kinds, named; `nothing` stands for every number that is no kind.
-pub data Kind : Type 0 where
-  nothing always hasLabel negation disjunction conjunction : Kind
-  someChild atParent atNext atPrevious : Kind
-  down up right left everyChild : Kind
+-- Whether a kind looks back: what is at an element does, and what goes along an axis that leads back.
+unfoldable pub isBackward : Direction → Bool
+isBackward forward = false
+isBackward backward = true
 
--- Kinds 0 to 14 in order, 0 being no kind.
-abbrev pub kinds : List Kind
-kinds =
-    nothing ∷ always ∷ hasLabel ∷ negation ∷ disjunction ∷ conjunction ∷ someChild ∷ atParent ∷ atNext ∷ atPrevious
-    ∷ down ∷ up ∷ right ∷ left ∷ everyChild ∷ []
-
-abbrev pub kindOf : ℕ → Kind
-kindOf number = getD kinds number nothing
+unfoldable pub kindLooksBack : Kind → Bool
+kindLooksBack nothing = false
+kindLooksBack (local k) = true
+kindLooksBack (someAlong x) = isBackward (direction x)
+kindLooksBack (untilAlong x) = isBackward (direction x)
+kindLooksBack everyChild = false
 
 -- B holds at some t at the end of a way of R from s, which may be s itself, and A holds at every u on the way, t excepted.
 unfoldable pub Until : (R : ℕ → ℕ → Type 0) (A B : ℕ → Type 0) → ℕ → Type 0
 Until R A B s =
     (t : ℕ) × Star R s t × B t × ((u : ℕ) → Star R s u → Star R u t → (u ≡ t → ⊥) → A u)
 
+-- Kinds 1 to 5 at an element: `label` is the entry's, `own` the element's; A and B are what entries a and b mean there.
+unfoldable pub MeansHere : Local → (label own : ℕ) (A B : Type 0) → Type 0
+MeansHere always label own A B = Unit {0}
+MeansHere hasLabel label own A B = own ≡ label
+MeansHere negation label own A B = A → ⊥
+MeansHere disjunction label own A B = A ⊎ B
+MeansHere conjunction label own A B = A × B
+
 -- A tree: the levels and the labels of its elements in order of opening.
 module _ (levels labels : List ℕ) where
-  -- The table of kinds at element s; `label` is the label of kind 2, A and B are what entries a and b mean.
+  -- The kinds at element s; `label` is the label of kind 2, A and B are what entries a and b mean.
   unfoldable pub Means : Kind → (label : ℕ) (A B : ℕ → Type 0) → ℕ → Type 0
   Means nothing label A B s = ⊥
-  Means always label A B s = Unit {0}
-  Means hasLabel label A B s = getD labels s 0 ≡ label
-  Means negation label A B s = A s → ⊥
-  Means disjunction label A B s = A s ⊎ B s
-  Means conjunction label A B s = A s × B s
-  Means someChild label A B s = (t : ℕ) × Child levels s t × A t
-  Means atParent label A B s = (t : ℕ) × Child levels t s × A t
-  Means atNext label A B s = (t : ℕ) × Next levels s t × A t
-  Means atPrevious label A B s = (t : ℕ) × Next levels t s × A t
-  Means down label A B s = Until (Child levels) A B s
-  Means up label A B s = Until (Back (Child levels)) A B s
-  Means right label A B s = Until (Next levels) A B s
-  Means left label A B s = Until (Back (Next levels)) A B s
-  Means everyChild label A B s = ((t : ℕ) × Child levels s t) × ((t : ℕ) → Child levels s t → A t)
+  Means (local k) label A B s = MeansHere k label (getD labels s 0) (A s) (B s)
+  Means (someAlong x) label A B s = (t : ℕ) × Neighbour levels x s t × A t
+  Means (untilAlong x) label A B s = Until (Neighbour levels x) A B s
+  Means everyChild label A B s = ((t : ℕ) × Neighbour levels child s t) × ((t : ℕ) → Neighbour levels child s t → A t)
 
   module _ (entries : List Entry) where
     abbrev entry : ℕ → Entry

@@ -5,7 +5,7 @@
 -- theorem). Assumes nothing.
 use Prim.Native.Nat.{ℕ, zero, suc, pred, _+_, _*_, _^_, _<_}
 use mathlib.Core.Path.{_≡_}
-use mathlib.Core.Bool.{Bool, true, false, cond, not, _&&_, _||_}
+use mathlib.Core.Bool.{Bool, true, false, cond, _&&_, _||_}
 use mathlib.Core.List.{List, [], _∷_}
 use lib.Dec.{eqb, ltb}
 use lib.ListN.{length, getD, set, replicate}
@@ -13,8 +13,12 @@ use Rattle.records.specs.declared.rule.Entry.{Entry}
 use Rattle.records.specs.Kinds.{looksBack}
 use Rattle.records.specs.Tags.{Tag, opens, closes, tagFault}
 use Rattle.grammar.specs.Rules.{noEntry}
-use Rattle.meaning.specs.Meaning.{Kind, kindOf, nothing, always, hasLabel, negation, disjunction, conjunction, someChild, atParent, atNext, atPrevious, down, up, right, left, everyChild}
-use Rattle.meaning.specs.Marks.{bit, bitAt}
+use Rattle.records.specs.declared.kind.Axis.{Axis}
+use Rattle.records.specs.declared.kind.Axis.the-variants.{Child as child, Parent as parent, Next as next, Previous as previous}
+use Rattle.records.specs.declared.kind.Kind.{Kind}
+use Rattle.records.specs.declared.kind.Kind.the-variants.{Nothing as nothing, Here as local, SomeAlong as someAlong, UntilAlong as untilAlong, EveryChild as everyChild}
+use Rattle.records.specs.Kinds.{kindOf}
+use Rattle.meaning.specs.Marks.{bit, bitAt, meansHere}
 
 -- How many elements are open and have been opened, whether the root is closed, and for each of 64 levels a presence bit, an open
 -- word and a last word.
@@ -38,23 +42,20 @@ fresh =
       lastWords = replicate 64 0;
     }
 
+-- The word that an axis leads to from an element that opens: its parent's, its previous sibling's; what is ahead has no word yet.
+unfoldable pub wordTo : Axis → (parentWord siblingWord : ℕ) → ℕ
+wordTo parent p q = p
+wordTo previous p q = q
+wordTo child p q = 0
+wordTo next p q = 0
+
 -- Entry i's bit for an element with a label, from the bits of the entries before it (w), the parent's word and the previous
--- sibling's. Only kinds that look back have one.
+-- sibling's.
 unfoldable pub stepBit : Kind → (a b i label w parentWord siblingWord : ℕ) → Bool
-stepBit always a b i label w p q = true
-stepBit hasLabel a b i label w p q = eqb label a
-stepBit negation a b i label w p q = not (bitAt w a)
-stepBit disjunction a b i label w p q = bitAt w a || bitAt w b
-stepBit conjunction a b i label w p q = bitAt w a && bitAt w b
-stepBit atParent a b i label w p q = bitAt p a
-stepBit atPrevious a b i label w p q = bitAt q a
-stepBit up a b i label w p q = bitAt w b || (bitAt w a && bitAt p i)
-stepBit left a b i label w p q = bitAt w b || (bitAt w a && bitAt q i)
 stepBit nothing a b i label w p q = false
-stepBit someChild a b i label w p q = false
-stepBit atNext a b i label w p q = false
-stepBit down a b i label w p q = false
-stepBit right a b i label w p q = false
+stepBit (local k) a b i label w p q = meansHere k a label (bitAt w a) (bitAt w b)
+stepBit (someAlong x) a b i label w p q = bitAt (wordTo x p q) a
+stepBit (untilAlong x) a b i label w p q = bitAt w b || (bitAt w a && bitAt (wordTo x p q) i)
 stepBit everyChild a b i label w p q = false
 
 module _ (entries : List Entry) where

@@ -1,5 +1,6 @@
 -- The tree of a report over its elements, numbered in order of opening, from the level of each. Document 01, "Records"; the child
 -- relation, the next-sibling relation and their closures are those of source 000, section 3.1, and source 003, section 2.
+-- The four axes name those relations and their inverses: kinds of entries and steps of typed paths go along them.
 -- Laws: proofs/Links.antt (as functions), proofs/Ways.antt (closures), proofs/Family.antt (one root, siblings in order),
 -- proofs/Innermost.antt (what is open), proofs/Rose.antt and Report.antt (accepted reports).
 -- Assumes nothing.
@@ -7,6 +8,8 @@ use Prim.Native.Nat.{ℕ, suc, _<_}
 use mathlib.Core.Path.{_≡_}
 use mathlib.Core.List.{List}
 use lib.ListN.{length, getD}
+use Rattle.records.specs.declared.kind.Axis.{Axis}
+use Rattle.records.specs.declared.kind.Axis.the-variants.{Child as child, Parent as parent, Next as next, Previous as previous}
 
 -- s is a child of p: s is an element, p opens before it, s is one level below p, and everything that opens between the two is
 -- below p, so that p is still open where s opens.
@@ -32,3 +35,20 @@ Back R s t = R t s
 pub data Star (R : ℕ → ℕ → Type 0) (s : ℕ) : ℕ → Type 0 where
   here : Star R s s
   onward : {t u : ℕ} → Star R s t → R t u → Star R s u
+
+-- One step from s to t along an axis: t is a child of s, the parent of s, its next sibling, its previous sibling.
+unfoldable pub Neighbour : List ℕ → Axis → (s t : ℕ) → Type 0
+Neighbour levels child = Child levels
+Neighbour levels parent = Back (Child levels)
+Neighbour levels next = Next levels
+Neighbour levels previous = Back (Next levels)
+
+-- Whether a step along an axis leads on to an element that opens later, or back to one that opened before.
+pub data Direction : Type 0 where
+  forward backward : Direction
+
+unfoldable pub direction : Axis → Direction
+direction child = forward
+direction parent = backward
+direction next = forward
+direction previous = backward

@@ -2,9 +2,9 @@
 use Prim.Native.Nat.{ℕ, pred, _-_, _≤_, _<_}
 use native.Mathlib.Omega.{arith}
 use borrow.Author.Tests.{eq-eqb, ne-eqb}
-use mathlib.Core.Path.{_≡_, sym, ap, _∙_}
+use mathlib.Core.Path.{_≡_, refl, sym, ap, _∙_}
 use mathlib.Core.Bool.{Bool, true, false, cond}
-use mathlib.Core.List.{List}
+use mathlib.Core.List.{List, [], _∷_}
 use lib.Dec.{eqb}
 use lib.ListN.{length, replicate}
 use Rattle.records.specs.declared.answer.Answer.{Answer}
@@ -12,20 +12,23 @@ use Rattle.records.specs.declared.answer.Answer.the-variants.{Accepted, Refused
 use Rattle.records.specs.declared.rule.Entry.{Entry}
 use Rattle.records.specs.Answer.{placeOf, countOf}
 use Rattle.records.specs.Rule.{ruleAnswer}
-use Rattle.records.specs.Tables.{entriesOf, EntriesFilled}
+use Rattle.records.specs.Tables.{entriesOf, entriesRead}
+use Rattle.records.specs.Kinds.{looksBack}
+use Rattle.records.proofs.WalkLaws.{entries-taken-all}
+use Rattle.onepass.specs.Walk.{Walked, Asked, WordsRead}
+use Rattle.onepass.specs.declared.walk.Walk.{Walk}
+use Rattle.onepass.specs.declared.walk.Ahead.{Ahead}
 use Rattle.records.specs.Tags.{Tag, opens, closes}
 use Rattle.records.proofs.Bounds.{rule-small}
 use Rattle.grammar.proofs.Entries.{entries-count, entries-some}
 use Rattle.meaning.specs.Marks.{bit, bitAt}
-use Rattle.meaning.specs.OnePass.{fault, stepWord}
+use Rattle.meaning.specs.OnePass.{fault, stepWord, openedWord}
 use Rattle.onepass.specs.Bytes.{wordAt}
 use Rattle.onepass.specs.State.{stateSize, depthIn, elementsIn, presenceIn, openPlace, lastPlace, stateOf, bad}
 use Rattle.onepass.specs.Step.{reply, startAnswer, startAfter, openedBytes, closedBytes, looksAhead, callNumber, answerOf, stateAfter}
 use Rattle.onepass.specs.Step.{Started, Answered}
-use Rattle.grammar.specs.Columns.{tableOf}
 use Rattle.onepass.specs.declared.export.StepReply.{StepReply}
 use Rattle.meaning.proofs.Words.{pred-sub}
-use Rattle.grammar.proofs.Columns.{table-of-columns}
 use Rattle.onepass.proofs.StateLaws.{good-iff}
 use Rattle.onepass.proofs.CallLaws.{call-taken, opened-is, closed-is, opened-read, opens-room, closes-room}
 
@@ -78,19 +81,13 @@ module _ (es : List Entry) (s : List ℕ) (k : ℕ) where
   pub closes-fine : k ≡ callNumber es s closes → k ≡ 0 → (length s ≡ stateSize) × (0 < depthIn s) × (depthIn s ≤ 64)
   closes-fine e z = let r = call-taken es s closes (sym e ∙ z) .1 in (r .0 .long, closes-room s (r .1), r .0 .shallow)
 
-  -- An opening that is taken, from what was read, worked out and stored.
-  pub opened-done : (l n d e p q w : ℕ) (on : Bool) (after : List ℕ) → length es ≡ n → k ≡ callNumber es s (opens l) → k ≡ 0
-      → d ≡ depthIn s → e ≡ elementsIn s → p ≡ cond (eqb d 0) 0 (wordAt 8 s (openPlace (pred d)))
-      → q ≡ cond (bitAt (presenceIn s) d) (wordAt 8 s (lastPlace d)) 0 → w ≡ stepWord es l p q n → on ≡ bitAt w (n - 1)
+  -- An opening that is taken, with its word.
+  pub opened-walked : (l n d e w : ℕ) (on : Bool) (after : List ℕ) → length es ≡ n → k ≡ callNumber es s (opens l) → k ≡ 0
+      → d ≡ depthIn s → e ≡ elementsIn s → w ≡ openedWord es (stateOf s) l → on ≡ bitAt w (n - 1)
       → after ≡ openedBytes d e w s → Answered es s (opens l) (reply 0 0 (bit on)) after
-  opened-done l n d e p q w on after m c z dd ee pp qq ww oo aa =
-      let r = opens-fine l c z in
-      let word = ww ∙ ap (stepWord es l p q) (sym m) ∙ opened-read es s l p q (r .1) (rw dd at pp) (rw dd at qq) in
+  opened-walked l n d e w on after m c z dd ee word oo aa =
       let done = opened-is es s l w (sym c ∙ z) word in
-      record {
-        answer = rw (oo, pred-sub n, ← m) (done .answer);
-        state-is = aa ∙ rw (dd, ee) (done .state-is);
-      }
+      record { answer = rw (oo, pred-sub n, ← m) (done .answer); state-is = aa ∙ rw (dd, ee) (done .state-is) }
 
   -- A closing that is taken.
   pub closed-done : (d : ℕ) (after : List ℕ) → k ≡ callNumber es s closes → k ≡ 0 → d ≡ depthIn s → after ≡ closedBytes (d - 1) s
@@ -101,15 +98,32 @@ module _ (es : List Entry) (s : List ℕ) (k : ℕ) where
 
 -- ---- the rule's bytes first
 
--- The columns hold the entries of an accepted rule.
-pub filled-entries : (rule a b c : List ℕ) (r : Answer) (kinds firsts seconds : List ℕ) (n : ℕ) → EntriesFilled rule a b c r kinds firsts seconds
-    → r ≡ Accepted n → length a ≡ 64 → length b ≡ 64 → length c ≡ 64 → tableOf n kinds firsts seconds ≡ entriesOf rule
-filled-entries rule a b c r kinds firsts seconds n f e la lb lc =
-    let count : length (entriesOf rule) ≡ n = entries-count rule ∙ ap countOf (sym (f .answer) ∙ e) in
-    let few = rule-small rule .count-in in
-    let m : length (entriesOf rule) ≤ 64 = omega (arith, few, entries-count rule) in
-    rw (f .kinds-are, f .firsts-are, f .seconds-are, ← count)
-    (table-of-columns (entriesOf rule) a b c (omega arith) (omega arith) (omega arith))
+-- What a walk says of an accepted rule's entries: how many, whether one looks ahead, and the word of an opening that is taken.
+walked-all : (rule : List ℕ) (label p q : ℕ) (r : Walk) (n : ℕ) → Walked rule label p q r → r .answer ≡ Accepted n → entriesRead rule ≡ entriesOf rule
+walked-all rule label p q r n w e = entries-taken-all rule n (sym e ∙ w .answer-is)
+
+pub accepted-count : (rule : List ℕ) (r : Answer) (n : ℕ) → r ≡ ruleAnswer rule → r ≡ Accepted n → length (entriesOf rule) ≡ n
+accepted-count rule r n e f = entries-count rule ∙ ap countOf (sym e ∙ f)
+
+pub walked-ahead : (rule : List ℕ) (label p q : ℕ) (r : Walk) (n : ℕ) → Walked rule label p q r → r .answer ≡ Accepted n → r .ahead ≡ looksAhead (entriesOf rule)
+walked-ahead rule label p q r n w e = w .ahead-is ∙ ap looksAhead (walked-all rule label p q r n w e)
+
+pub asked-ahead : (rule : List ℕ) (r : Ahead) (n : ℕ) → Asked rule r → r .answer ≡ Accepted n → r .ahead ≡ looksAhead (entriesOf rule)
+asked-ahead rule r n w e = w .ahead-is ∙ ap looksAhead (entries-taken-all rule n (sym e ∙ w .answer-is))
+
+pub walked-word : (rule s : List ℕ) (label p q : ℕ) (r : Walk) (n : ℕ) → Walked rule label p q r → r .answer ≡ Accepted n → WordsRead s p q
+    → callNumber (entriesOf rule) s (opens label) ≡ 0 → r .word ≡ openedWord (entriesOf rule) (stateOf s) label
+walked-word rule s label p q r n w e words z =
+    let good = good-iff s .1 (call-taken (entriesOf rule) s (opens label) z .1 .0) in
+    let low = opens-fine (entriesOf rule) s 0 label (sym z) refl .1 in
+    w .word-is ∙ ap (λ (es : List Entry). stepWord es label p q (length es)) (walked-all rule label p q r n w e)
+    ∙ opened-read (entriesOf rule) s label p q low (words .parent-is good low) (words .sibling-is good low)
+
+-- Every answer of that test is some entries'.
+pub some-entries : (a : Bool) → (es : List Entry) × (a ≡ looksAhead es)
+unfolding looksAhead looksBack
+some-entries false = ([], refl)
+some-entries true = (record { kind = 6; a = 0; b = 0 } ∷ [], refl)
 
 -- An accepted rule has 1 to 64 entries.
 pub accepted-range : (rule : List ℕ) (r : Answer) (n : ℕ) → r ≡ ruleAnswer rule → r ≡ Accepted n → (1 ≤ n) × (n ≤ 64)
@@ -131,3 +145,7 @@ module _ (rule s : List ℕ) (t : Tag) where
   pub refused-call : (k p : ℕ) → ruleAnswer rule ≡ Refused k p → (reply k p 0 ≡ answerOf rule s t) × (s ≡ stateAfter rule s t)
   unfolding answerOf stateAfter
   refused-call k p e = (rw e, rw e)
+
+-- A test is not both.
+pub true-false : {A : Type 0} {b : Bool} → b ≡ true → b ≡ false → A
+true-false e f = let z : _≡_ {A = ℕ} 0 1 = cc in absurd (omega arith)

@@ -2,6 +2,7 @@
 pub mod ByteLaws
 pub mod BitLaws
 pub mod StepLaws
+pub mod WalkLaws
 pub mod StateLaws
 pub mod CallLaws
 pub mod CodeLaws

@@ -2,4 +2,5 @@
 pub mod Bytes
 pub mod State
 pub mod Step
+pub mod Walk
 pub mod Calls

@@ -4,21 +4,22 @@ ghost use Prim.Native.Nat.{_≤_};
 ghost use lib.ListN.{length, replicate};
 ghost use Rattle.records.specs.Tags.{opens, closes};
 ghost use Rattle.onepass.specs.State.{stateSize};
-ghost use Rattle.grammar.specs.Columns.{tableOf};
-ghost use Rattle.onepass.specs.Step.{Started, Opened, Closed, Answered, callNumber};
+ghost use mathlib.Core.List.{List};
+ghost use Rattle.records.specs.declared.rule.Entry.{Entry};
+ghost use Rattle.onepass.specs.Walk.{WordsRead, OpenStep};
+ghost use Rattle.onepass.specs.Step.{Started, Opened, Closed, Answered, callNumber, looksAhead};
 use crate::bytes::number_at;
 use crate::state::bad_state;
 use crate::state::parent_word;
 use crate::state::sibling_word;
 use crate::state::store_closing;
 use crate::state::store_opening;
-use crate::step::looks_ahead;
-use crate::step::step_word;
+use crate::walk::ask_rule;
+use crate::walk::walk_rule;
 use bits::bit_at;
 use records::answer::Answer;
 use records::report::close_fault;
 use records::report::open_fault;
-use records::tables::fill_entries;
 
 // What a call answers: document 01's number, the place, and the verdict.
 #[repr(C)]
@@ -39,19 +40,42 @@ fn clear(state: &mut [u8])
     }
 }
 
-// The number of an opening with an accepted rule.
-fn open_number(
-    n: usize,
-    kinds: &[u16; 64],
-    firsts: &[u16; 64],
-    seconds: &[u16; 64],
-    state: &[u8],
-    label: usize,
-) -> u32
-    requires { ⌜ n ≤ 64 ⌝ }
-    ensures { λ r. ⌜ r ≡ callNumber (tableOf n (now (kinds .entry)) (now (firsts .entry)) (now (seconds .entry))) (now (state .entry)) (opens label) ⌝ }
+// The words of the parent and of the previous sibling that an opening reads.
+struct Words {
+    parent: u64,
+    sibling: u64,
+}
+
+// The words that an opening may read of a state that is not bad; 0 where it reads none.
+fn words_of(state: &[u8]) -> Words
+    ensures { λ r. ⌜ WordsRead (now (state .entry)) (r .parent) (r .sibling) ⌝ }
 {
-    if looks_ahead(n, kinds, firsts, seconds) {
+    if bad_state(state) {
+        return Words {
+            parent: 0,
+            sibling: 0,
+        };
+    }
+    let d = number_at(state, 0);
+    if 64 <= d {
+        return Words {
+            parent: 0,
+            sibling: 0,
+        };
+    }
+    let p = parent_word(state, d);
+    let q = sibling_word(state, d);
+    Words {
+        parent: p,
+        sibling: q,
+    }
+}
+
+// The number of an opening with an accepted rule, of whose entries one looks ahead or none.
+fn open_number(ahead: bool, state: &[u8], label: usize) -> u32
+    ensures { λ r. ⌜ ((es : List Entry) → «ahead» ≡ looksAhead es → r ≡ callNumber es (now (state .entry)) (opens label)) ⌝ }
+{
+    if ahead {
         return 10;
     }
     if bad_state(state) {
@@ -65,18 +89,11 @@ fn open_number(
     )
 }
 
-// The number of a closing with an accepted rule.
-fn close_number(
-    n: usize,
-    kinds: &[u16; 64],
-    firsts: &[u16; 64],
-    seconds: &[u16; 64],
-    state: &[u8],
-) -> u32
-    requires { ⌜ n ≤ 64 ⌝ }
-    ensures { λ r. ⌜ r ≡ callNumber (tableOf n (now (kinds .entry)) (now (firsts .entry)) (now (seconds .entry))) (now (state .entry)) closes ⌝ }
+// The number of a closing with an accepted rule, of whose entries one looks ahead or none.
+fn close_number(ahead: bool, state: &[u8]) -> u32
+    ensures { λ r. ⌜ ((es : List Entry) → «ahead» ≡ looksAhead es → r ≡ callNumber es (now (state .entry)) closes) ⌝ }
 {
-    if looks_ahead(n, kinds, firsts, seconds) {
+    if ahead {
         return 10;
     }
     if bad_state(state) {
@@ -85,19 +102,12 @@ fn close_number(
     close_fault(number_at(state, 0))
 }
 
-// Opens with an accepted rule of n entries.
-fn open_entries(
-    n: usize,
-    kinds: &[u16; 64],
-    firsts: &[u16; 64],
-    seconds: &[u16; 64],
-    state: &mut [u8],
-    label: usize,
-) -> StepReply
+// Opens with an accepted rule of n entries, which give the word w.
+fn open_step(n: usize, ahead: bool, w: u64, state: &mut [u8], label: usize) -> StepReply
     requires { ⌜ (1 ≤ n) × (n ≤ 64) ⌝ }
-    ensures { λ r. ⌜ Answered (tableOf n (now (kinds .entry)) (now (firsts .entry)) (now (seconds .entry))) (now (state .entry)) (opens label) r (now (state .exit)) ⌝ }
+    ensures { λ r. ⌜ OpenStep n «ahead» w (now (state .entry)) label r (now (state .exit)) ⌝ }
 {
-    let number = open_number(n, kinds, firsts, seconds, state, label);
+    let number = open_number(ahead, state, label);
     if number != 0 {
         return StepReply {
             number: number,
@@ -107,9 +117,6 @@ fn open_entries(
     }
     let d = number_at(state, 0);
     let elements = number_at(state, 2);
-    let p = parent_word(state, d);
-    let q = sibling_word(state, d);
-    let w = step_word(n, kinds, firsts, seconds, label, p, q);
     store_opening(state, d, elements, w);
     StepReply {
         number: 0,
@@ -118,18 +125,11 @@ fn open_entries(
     }
 }
 
-// Closes with an accepted rule of n entries.
-fn close_entries(
-    n: usize,
-    kinds: &[u16; 64],
-    firsts: &[u16; 64],
-    seconds: &[u16; 64],
-    state: &mut [u8],
-) -> StepReply
-    requires { ⌜ n ≤ 64 ⌝ }
-    ensures { λ r. ⌜ Answered (tableOf n (now (kinds .entry)) (now (firsts .entry)) (now (seconds .entry))) (now (state .entry)) closes r (now (state .exit)) ⌝ }
+// Closes with an accepted rule.
+fn close_step(ahead: bool, state: &mut [u8]) -> StepReply
+    ensures { λ r. ⌜ ((es : List Entry) → «ahead» ≡ looksAhead es → Answered es (now (state .entry)) closes r (now (state .exit))) ⌝ }
 {
-    let number = close_number(n, kinds, firsts, seconds, state);
+    let number = close_number(ahead, state);
     if number != 0 {
         return StepReply {
             number: number,
@@ -171,11 +171,11 @@ pub extern "C" fn pz_start(state: &mut [u8]) -> StepReply
 pub extern "C" fn pz_open(rule: &[u8], state: &mut [u8], label: u32) -> StepReply
     ensures { λ r. ⌜ Opened (now (rule .entry)) (now (state .entry)) label r (now (state .exit)) ⌝ }
 {
-    let mut kinds = [0u16; 64];
-    let mut firsts = [0u16; 64];
-    let mut seconds = [0u16; 64];
-    match fill_entries(rule, &mut kinds, &mut firsts, &mut seconds) {
-        Answer::Accepted(n) => open_entries(n, &kinds, &firsts, &seconds, state, label as usize),
+    let words = words_of(state);
+    let walked = walk_rule(rule, label as usize, words.parent, words.sibling);
+    let answer = walked.answer;
+    match answer {
+        Answer::Accepted(n) => open_step(n, walked.ahead, walked.word, state, label as usize),
         Answer::Refused(number, place) => StepReply {
             number: number,
             place: place as u32,
@@ -189,11 +189,10 @@ pub extern "C" fn pz_open(rule: &[u8], state: &mut [u8], label: u32) -> StepRepl
 pub extern "C" fn pz_close(rule: &[u8], state: &mut [u8]) -> StepReply
     ensures { λ r. ⌜ Closed (now (rule .entry)) (now (state .entry)) r (now (state .exit)) ⌝ }
 {
-    let mut kinds = [0u16; 64];
-    let mut firsts = [0u16; 64];
-    let mut seconds = [0u16; 64];
-    match fill_entries(rule, &mut kinds, &mut firsts, &mut seconds) {
-        Answer::Accepted(n) => close_entries(n, &kinds, &firsts, &seconds, state),
+    let asked = ask_rule(rule);
+    let answer = asked.answer;
+    match answer {
+        Answer::Accepted(n) => close_step(asked.ahead, state),
         Answer::Refused(number, place) => StepReply {
             number: number,
             place: place as u32,

@@ -4,4 +4,5 @@ mod bytes;
 pub mod export;
 mod state;
 mod step;
+mod walk;
 mod word;

@@ -10,7 +10,9 @@ use lib.Dec.{eqb}
 use lib.ListN.{length, drop}
 use Rattle.text.specs.Text.{ascii}
 use Rattle.text.specs.Decimal.{decimal}
-use Rattle.paths.specs.Syntax.{Axis, child, parent, right, left, along, along*, GoodT}
+use Rattle.records.specs.declared.kind.Axis.{Axis}
+use Rattle.records.specs.declared.kind.Axis.the-variants.{Child as child, Parent as parent, Next as right, Previous as left}
+use Rattle.paths.specs.Syntax.{along, along*, GoodT}
 use Rattle.paths.specs.Spelling.{axisWord, orWord, gap, piecesT, signByte}
 use Rattle.paths.specs.Translation.{neighbourKind, untilKind}
 use Rattle.paths.proofs.Machine.{Expected, byte, test, lettered, alternative, number, path, axis, afterAxis, afterStep, run, next, choices, pick, ended, isWord, isDigit, stopped}

@@ -8,7 +8,8 @@ use mathlib.Core.List.{List, [], _∷_, _++_}
 use lib.ListN.{length, drop}
 use lib.Dec.{leb}
 use Rattle.text.specs.Decimal.{decimal}
-use Rattle.paths.specs.Syntax.{Axis, Test, Path, Step, along, along*, passing, while, GoodT, GoodP, GoodS}
+use Rattle.records.specs.declared.kind.Axis.{Axis}
+use Rattle.paths.specs.Syntax.{Test, Path, Step, along, along*, passing, while, GoodT, GoodP, GoodS}
 use Rattle.paths.specs.Spelling.{greater, sign, axisWord, notWord, orWord, gap, piecesT, piecesP, piecesS, textOf, Text, StopsAt}
 use Rattle.paths.specs.Translation.{neighbourKind, tableOf}
 use Rattle.paths.specs.Answer.{TextOf, bytesFor, Gets}

@@ -10,7 +10,8 @@ use lib.ListN.{length, length-append}
 use lib.Seq.{getD-append-seam}
 use Rattle.records.specs.declared.rule.Entry.{Entry}
 use Rattle.grammar.specs.Rules.{noEntry}
-use Rattle.meaning.specs.Meaning.{kindOf, Means, Below, Holds}
+use Rattle.records.specs.Kinds.{kindOf}
+use Rattle.meaning.specs.Meaning.{Means, Below, Holds}
 use Rattle.meaning.proofs.Behind.{below-holds, below-kept, holds-kept}
 use Rattle.paths.specs.Translation.{put, entry}
 

@@ -5,7 +5,8 @@ use native.Mathlib.Omega.{arith}
 use native.Mathlib.Nat.{eq-or-lt-of-le}
 use borrow.Author.Tests.{le-leb, lt-leb, ne-eqb}
 use lib.ListN.{length, List·getD-eq-default}
-use mathlib.Core.Path.{_≡_, refl, subst}
+use mathlib.Core.Path.{_≡_, refl, ap, subst}
+use native.Mathlib.Decide.{decLt}
 use mathlib.Core.Bool.{true, false}
 use mathlib.Core.Logic.{⊎-elim}
 use Rattle.records.specs.Kinds.{table, noKind, rowOf, looksBack}
@@ -35,3 +36,22 @@ back-low k l h = rw (le-leb 1 k l, le-leb k 5 h)
 pub ahead-high : (k : ℕ) → 5 < k → (k ≡ 7 → ⊥) → (k ≡ 9 → ⊥) → (k ≡ 11 → ⊥) → (k ≡ 13 → ⊥) → looksBack k ≡ false
 unfolding looksBack
 ahead-high k h a b c d = rw (le-leb 1 k (omega arith), lt-leb k 5 h, ne-eqb k 7 a, ne-eqb k 9 b, ne-eqb k 11 c, ne-eqb k 13 d)
+
+-- What is none of the kinds has no row.
+pub row-other : (k : ℕ) → ((j : ℕ) → 1 ≤ j → j < 15 → k ≡ j → ⊥) → rowOf k ≡ noKind
+unfolding rowOf
+row-other k n = elim (decLt 14 k) [ yes h ↦ row-none k h | no h ↦ go k refl (omega arith) ]
+  where
+    go : (m : ℕ) → k ≡ m → m ≤ 14 → rowOf k ≡ noKind
+    go zero e l = ap rowOf e
+    go (suc m) e l = absurd (n (suc m) (omega arith) (omega arith) e)
+
+-- What is none of these looks ahead.
+pub back-other : (k : ℕ) → ((j : ℕ) → 1 ≤ j → j < 6 → k ≡ j → ⊥) → (k ≡ 7 → ⊥) → (k ≡ 9 → ⊥) → (k ≡ 11 → ⊥) → (k ≡ 13 → ⊥)
+    → looksBack k ≡ false
+unfolding looksBack
+back-other k n a b c d = elim (decLt 5 k) [ yes h ↦ ahead-high k h a b c d | no h ↦ go k refl (omega arith) ]
+  where
+    go : (m : ℕ) → k ≡ m → m ≤ 5 → looksBack k ≡ false
+    go zero e l = ap looksBack e
+    go (suc m) e l = absurd (n (suc m) (omega arith) (omega arith) e)

@@ -8,5 +8,6 @@ pub mod RuleLaws
 pub mod TagLaws
 pub mod ReportLaws
 pub mod TableLaws
+pub mod WalkLaws
 pub mod Bounds
 pub mod Only

@@ -20,7 +20,7 @@ use Rattle.records.specs.declared.frame.Frame.{Frame}
 use Rattle.records.specs.declared.frame.Frame.the-variants.{Whole, Cut, Garbled}
 use Rattle.records.proofs.TagLaws.{depth-append, labels-append}
 use Rattle.records.proofs.Reading.{Mid, mid-start, mid-turn, mid-ended, mid-faulty}
-use Rattle.records.proofs.FrameLaws.{Stands, frame-few, whole-stands}
+use Rattle.records.proofs.FrameLaws.{Stands, frame-few, frame-unknown, frame-wrong, frame-past, frame-whole, whole-stands}
 
 -- ---- one record
 
@@ -33,6 +33,19 @@ module _ (s : List ℕ) (at : ℕ) where
   pub tag-closes : eqb (kindAt s at) 1 ≡ false → tagAt s at ≡ closes
   unfolding tagAt
   tag-closes e = rw e
+
+  -- The length of each kind's record.
+  pub length-opens : kindAt s at ≡ 1 → reportLength (kindAt s at) ≡ 4
+  unfolding reportLength
+  length-opens k = ap reportLength k
+
+  pub length-closes : kindAt s at ≡ 2 → reportLength (kindAt s at) ≡ 2
+  unfolding reportLength
+  length-closes k = ap reportLength k
+
+  pub length-none : (kindAt s at ≡ 1 → ⊥) → (kindAt s at ≡ 2 → ⊥) → reportLength (kindAt s at) ≡ 0
+  unfolding reportLength
+  length-none k l = rw (ne-eqb (kindAt s at) 1 k, ne-eqb (kindAt s at) 2 l)
 
   -- A whole opening has room for its label.
   pub label-room : Stands s at (reportLength (kindAt s at)) → kindAt s at ≡ 1 → at + 6 ≤ length s
@@ -61,6 +74,38 @@ module _ (s : List ℕ) (at : ℕ) where
         → tagFault depth elements (eqb depth 0 && ltb 0 elements) (tagAt s at) ≡ recordFault s at depth elements
     unfolding recordFault
     record-whole e = rw (← e)
+
+    -- The same by the length that the record's kind has: no such kind, another length, past the end, none of these.
+    module _ (n : ℕ) (is : reportLength (kindAt s at) ≡ n) (room : at + 4 ≤ length s) where
+      frame-by : (f : Frame) → frameOf s at n ≡ f → f ≡ frameOf s at (reportLength (kindAt s at))
+      frame-by f e = sym (ap (frameOf s at) is ∙ e)
+
+      pub record-unknown : n ≡ 0 → 6 ≡ recordFault s at depth elements
+      record-unknown z = record-broken Garbled (frame-by Garbled (frame-unknown s at n room z)) refl
+
+      pub record-wrong : (n ≡ 0 → ⊥) → (numberAt s at ≡ n → ⊥) → 6 ≡ recordFault s at depth elements
+      record-wrong z e = record-broken Garbled (frame-by Garbled (frame-wrong s at n room z e)) refl
+
+      pub record-past : (n ≡ 0 → ⊥) → numberAt s at ≡ n → length s < at + 2 + n → 6 ≡ recordFault s at depth elements
+      record-past z e p = record-broken Cut (frame-by Cut (frame-past s at n room z e p)) refl
+
+      pub record-fits : (n ≡ 0 → ⊥) → numberAt s at ≡ n → at + 2 + n ≤ length s
+          → tagFault depth elements (eqb depth 0 && ltb 0 elements) (tagAt s at) ≡ recordFault s at depth elements
+      record-fits z e p = record-whole (frame-by Whole (frame-whole s at n room z e p))
+
+    -- A whole opening, and a whole closing: what the tag is answered.
+    pub record-opens : kindAt s at ≡ 1 → at + 4 ≤ length s → numberAt s at ≡ 4 → at + 6 ≤ length s → (l r : ℕ) → l ≡ numberAt s (at + 4)
+        → r ≡ tagFault depth elements (eqb depth 0 && ltb 0 elements) (opens l) → r ≡ recordFault s at depth elements
+    record-opens k room e p l r q f =
+        f ∙ ap (tagFault depth elements (eqb depth 0 && ltb 0 elements)) (ap opens q ∙ sym (tag-opens (eq-eqb (kindAt s at) 1 k)))
+        ∙ record-fits 4 (length-opens k) room (λ z. omega arith) e (omega arith)
+
+    pub record-closes : kindAt s at ≡ 2 → at + 4 ≤ length s → numberAt s at ≡ 2 → (r : ℕ) → r ≡ tagFault depth 0 false closes
+        → r ≡ recordFault s at depth elements
+    unfolding tagFault
+    record-closes k room e r f =
+        f ∙ ap (tagFault depth elements (eqb depth 0 && ltb 0 elements)) (sym (tag-closes (ne-eqb (kindAt s at) 1 (λ z. omega arith))))
+        ∙ record-fits 2 (length-closes k) room (λ z. omega arith) e (omega arith)
 
     -- A record with no fault is whole, and its tag has none.
     pub record-sound : recordFault s at depth elements ≡ 0

@@ -2,7 +2,7 @@
 -- Assumes nothing.
 use Prim.Native.Nat.{ℕ, zero, suc, _+_, _*_, _≤_, _<_}
 use native.Mathlib.Omega.{arith}
-use borrow.Author.Tests.{lt-ltb, le-ltb, le-leb, lt-leb, leb-false, eq-eqb, ne-eqb}
+use borrow.Author.Tests.{lt-ltb, le-ltb, le-leb, lt-leb, leb-false, eq-eqb, ne-eqb, eqb-true}
 use mathlib.Core.Path.{_≡_, refl, sym, ap, subst, _∙_}
 use mathlib.Core.Bool.{Bool, true, false, cond, not, _||_}
 use mathlib.Core.List.{List}
@@ -12,13 +12,14 @@ use Rattle.records.specs.Bytes.{numberAt}
 use Rattle.records.specs.First.{first}
 use Rattle.records.specs.Frame.{frameOf, kindAt, broken, nextOf, startOf}
 use Rattle.records.specs.Kinds.{rowOf}
-use Rattle.records.specs.Rule.{entryOf, entryAt, misdirected, ruleFault, ruleFaults, ruleStops, ruleEnd, ruleAnswer}
+use Rattle.records.specs.Rule.{entryOf, entryAt, misdirected, faultyAt, fineAt, takenAt, ruleFault, ruleFaults, ruleStops, ruleEnd, ruleAnswer}
 use Rattle.records.specs.declared.answer.Answer.{Answer}
 use Rattle.records.specs.declared.answer.Answer.the-variants.{Accepted, Refused}
 use Rattle.records.specs.declared.frame.Frame.{Frame}
 use Rattle.records.specs.declared.frame.Frame.the-variants.{Whole, Cut, Garbled}
 use Rattle.records.specs.declared.kind.Row.{Row}
 use Rattle.records.specs.declared.rule.Entry.{Entry}
+use Rattle.records.specs.declared.rule.Taken.{Taken}
 use Rattle.records.proofs.Reading.{Mid, mid-turn, mid-ended, mid-faulty}
 use Rattle.records.proofs.FrameLaws.{Stands, frame-few, whole-stands}
 use Rattle.records.proofs.Rows.{row-measured}
@@ -74,6 +75,49 @@ rule-sound s own at e =
     go false Whole wrong p q z = (leb-false 64 own p, whole-stands s at (rowOf (kindAt s at) .length) q)
     go false Cut wrong p q z = absurd (omega arith)
     go false Garbled wrong p q z = absurd (omega arith)
+
+-- ---- what a record is taken for
+
+module _ (s : List ℕ) (own at : ℕ) where
+  -- A record with a number.
+  pub taken-faulty : (n : ℕ) → n ≡ ruleFault s own at → (n ≡ 0 → ⊥) → faultyAt n at ≡ takenAt s own at
+  unfolding takenAt
+  taken-faulty n e z = rw (← e, ne-eqb n 0 z)
+
+  -- A whole record: its entry decides.
+  pub taken-whole : (row : Row) → row ≡ rowOf (kindAt s at) → own < 64 → Whole ≡ frameOf s at (row .length)
+      → (e : Entry) (next : ℕ) (t : Taken) → e ≡ entryOf row s at → next ≡ at + 2 + row .length
+      → t ≡ cond (misdirected (row .holds) (row .arguments) own e) (faultyAt 3 at) (fineAt e next) → t ≡ takenAt s own at
+  unfolding takenAt nextOf entryAt
+  taken-whole row is l w e next t p q r =
+      go (misdirected (row .holds) (row .arguments) own e) (ap (λ (x : Entry). cond (misdirected (row .holds) (row .arguments) own x) 3 0) p ∙ rule-whole s own at row is l w) r
+    where
+      long : numberAt s at ≡ row .length
+      long = whole-stands s at (row .length) (sym w) .long
+
+      go : (b : Bool) → cond b 3 0 ≡ ruleFault s own at → t ≡ cond b (faultyAt 3 at) (fineAt e next) → t ≡ takenAt s own at
+      go true f z = z ∙ taken-faulty 3 f (λ y. omega arith)
+      go false f z =
+          z ∙ ap (λ (x : Entry). fineAt x next) (p ∙ ap (λ (x : Row). entryOf x s at) is)
+          ∙ ap (fineAt (entryAt s at)) (q ∙ ap (λ (n : ℕ). at + 2 + n) (sym long))
+          ∙ rw (eq-eqb (ruleFault s own at) 0 (sym f))
+
+  module _ (t : Taken) (e : t ≡ takenAt s own at) where
+    -- The number is the record's.
+    pub taken-fault : t .fault ≡ ruleFault s own at
+    unfolding takenAt
+    taken-fault = ap (λ (x : Taken). x .fault) e ∙ go (ruleFault s own at) (eqb (ruleFault s own at) 0) refl
+      where
+        go : (f : ℕ) (b : Bool) → eqb f 0 ≡ b → cond b (fineAt (entryAt s at) (nextOf s at)) (faultyAt f at) .fault ≡ f
+        go f true k = sym (eqb-true f 0 k)
+        go f false k = refl
+
+    -- Without one, the entry and the next offset are.
+    pub taken-fine : t .fault ≡ 0 → (t .entry ≡ entryAt s at) × (t .next ≡ nextOf s at)
+    unfolding takenAt
+    taken-fine z =
+        let f : t ≡ fineAt (entryAt s at) (nextOf s at) = e ∙ rw (eq-eqb (ruleFault s own at) 0 (sym taken-fault ∙ z)) in
+        (ap (λ (x : Taken). x .entry) f, ap (λ (x : Taken). x .next) f)
 
 -- The turns of the reader's loop.
 module _ (s : List ℕ) where

@@ -171,7 +171,7 @@ element-put true xs more lent held last e v n m p q =
 element-put false xs more lent held last e v n m p q = q ∙ p ∙ ap (λ (ys : List ℕ). over ys lent) (sym m)
 
 -- The value put is read only where it is put.
-put-value : (b : Bool) (held last : List ℕ) (e v n : ℕ) → v ≡ cond b n 0 → last ≡ cond b (set held e v) held → last ≡ cond b (set held e n) held
+pub put-value : (b : Bool) (held last : List ℕ) (e v n : ℕ) → v ≡ cond b n 0 → last ≡ cond b (set held e v) held → last ≡ cond b (set held e n) held
 put-value true held last e v n p q = q ∙ ap (set held e) p
 put-value false held last e v n p q = q
 

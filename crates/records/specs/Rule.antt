@@ -8,7 +8,7 @@ use lib.Dec.{leb, ltb, eqb}
 use lib.ListN.{length}
 use Rattle.records.specs.Bytes.{numberAt}
 use Rattle.records.specs.First.{first}
-use Rattle.records.specs.Frame.{kindAt, brokenAt, startOf, stopsAt}
+use Rattle.records.specs.Frame.{kindAt, brokenAt, nextOf, startOf, stopsAt}
 use Rattle.records.specs.Kinds.{rowOf, ruleLength}
 use Rattle.records.specs.Tags.{outside}
 use Rattle.records.specs.declared.answer.Answer.{Answer}
@@ -17,6 +17,7 @@ use Rattle.records.specs.declared.kind.Holds.{Holds}
 use Rattle.records.specs.declared.kind.Holds.the-variants.{Nothing, Label, Entries}
 use Rattle.records.specs.declared.kind.Row.{Row}
 use Rattle.records.specs.declared.rule.Entry.{Entry}
+use Rattle.records.specs.declared.rule.Taken.{Taken}
 
 -- The entry whose record, of this row, stands at an offset: its kind, and the numbers of its body, 0 where it has none.
 unfoldable pub entryOf : Row → List ℕ → ℕ → Entry
@@ -50,6 +51,16 @@ row3 s own at = misdirected (rowOf (kindAt s at) .holds) (rowOf (kindAt s at) .a
 -- The number that the record gets, in the order 4, 2, 3; 0 where it has no fault.
 unfoldable pub ruleFault : List ℕ → ℕ → ℕ → ℕ
 ruleFault s own at = cond (row4 own) 4 (cond (row2 s at) 2 (cond (row3 s own at) 3 0))
+
+-- What a record is taken for: with a number there is no entry, and reading stays; without, there are its entry and the next offset.
+abbrev pub faultyAt : ℕ → ℕ → Taken
+faultyAt number at = record { fault = number; entry = record { kind = 0; a = 0; b = 0 }; next = at }
+
+abbrev pub fineAt : Entry → ℕ → Taken
+fineAt e next = record { fault = 0; entry = e; next = next }
+
+unfoldable pub takenAt : List ℕ → ℕ → ℕ → Taken
+takenAt s own at = cond (eqb (ruleFault s own at) 0) (fineAt (entryAt s at) (nextOf s at)) (faultyAt (ruleFault s own at) at)
 
 -- The number that record i gets: it is entry i.
 abbrev pub ruleFaults : List ℕ → ℕ → ℕ

@@ -1,27 +1,14 @@
 // The report reader.
 ghost use mathlib.Core.Path.{_≡_};
-ghost use mathlib.Core.Bool.{false, _&&_};
+ghost use mathlib.Core.Bool.{false};
 ghost use Prim.Native.Nat.{_+_, _≤_, _<_};
-ghost use lib.Dec.{eqb, ltb};
+ghost use lib.Dec.{eqb};
 ghost use lib.ListN.{length};
 ghost use Rattle.records.specs.Frame.{kindAt};
 ghost use Rattle.records.specs.Tags.{opens, closes, tagFault};
-ghost use Rattle.records.specs.Report.{reportLength, tagAt, recordFault, endOf, reportAnswer};
+ghost use Rattle.records.specs.Report.{recordFault, endOf, reportAnswer};
 use crate::answer::Answer;
-use crate::frame::Frame;
-use crate::frame::frame_of;
 use crate::number::number_at;
-
-// The length of a report record of each kind; 0 for a number that is no kind.
-fn report_length(kind: usize) -> usize
-    ensures { λ r. ⌜ r ≡ reportLength kind ⌝ }
-{
-    match kind {
-        1..=1 => 4,
-        2..=2 => 2,
-        _ => 0,
-    }
-}
 
 // The number that an opening gets where so many elements are open and so many have been opened; 0
 // where it has no fault.
@@ -56,43 +43,58 @@ pub(crate) fn opens_at(s: &[u8], at: usize) -> bool
     number_at(s, at + 2) == 1
 }
 
-// The number of a whole record, by its tag.
-fn tag_fault(s: &[u8], at: usize, depth: usize, elements: usize) -> u32
+// The number of a record of kind 1, with 4 bytes or more left.
+fn opening_fault(s: &[u8], at: usize, depth: usize, elements: usize) -> u32
     requires { ⌜ at + 4 ≤ length (now s) ⌝ }
-    requires { ⌜ (kindAt (now s) at ≡ 1 → at + 6 ≤ length (now s)) ⌝ }
-    ensures { λ r. ⌜ r ≡ tagFault depth elements (eqb depth 0 && ltb 0 elements) (tagAt (now (s .entry)) at) ⌝ }
+    requires { ⌜ kindAt (now s) at ≡ 1 ⌝ }
+    ensures { λ r. ⌜ r ≡ recordFault (now (s .entry)) at depth elements ⌝ }
 {
-    if opens_at(s, at) {
-        open_fault(
-            depth,
-            elements,
-            (depth == 0) & (0 < elements),
-            number_at(s, at + 4),
-        )
-    } else {
-        close_fault(depth)
+    if number_at(s, at) != 4 {
+        return 6;
     }
+    if s.len() - at < 6 {
+        return 6;
+    }
+    open_fault(
+        depth,
+        elements,
+        (depth == 0) & (0 < elements),
+        number_at(s, at + 4),
+    )
+}
+
+// The number of a record of kind 2, with 4 bytes or more left.
+fn closing_fault(s: &[u8], at: usize, depth: usize, elements: usize) -> u32
+    requires { ⌜ at + 4 ≤ length (now s) ⌝ }
+    requires { ⌜ kindAt (now s) at ≡ 2 ⌝ }
+    ensures { λ r. ⌜ r ≡ recordFault (now (s .entry)) at depth elements ⌝ }
+{
+    if number_at(s, at) != 2 {
+        return 6;
+    }
+    close_fault(depth)
 }
 
 // The number that the record at an offset gets where so many elements are open and so many have
-// been opened before it; 0 where it has no fault.
-fn record_fault(s: &[u8], at: usize, depth: usize, elements: usize) -> u32
+// been opened before it; 0 where it has no fault. By the kind first: each kind's own path has its
+// length as a constant, so that the walk does not wait for what it read.
+pub(crate) fn record_fault(s: &[u8], at: usize, depth: usize, elements: usize) -> u32
     requires { ⌜ at ≤ length (now s) ⌝ }
     ensures { λ r. ⌜ r ≡ recordFault (now (s .entry)) at depth elements ⌝ }
 {
     if s.len() - at < 4 {
         return 6;
     }
-    let expected = report_length(number_at(s, at + 2));
-    match frame_of(s, at, expected) {
-        Frame::Cut => 6,
-        Frame::Garbled => 6,
-        Frame::Whole => tag_fault(s, at, depth, elements),
+    let kind = number_at(s, at + 2);
+    match kind {
+        1 => opening_fault(s, at, depth, elements),
+        2 => closing_fault(s, at, depth, elements),
+        _ => 6,
     }
 }
 
 // What a report of so many bytes is answered that ends here.
-fn end_of(size: usize, depth: usize, elements: usize) -> Answer
+pub(crate) fn end_of(size: usize, depth: usize, elements: usize) -> Answer
     ensures { λ r. ⌜ r ≡ endOf size depth elements ⌝ }
 {
     if depth == 0 {

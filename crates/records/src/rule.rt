@@ -4,7 +4,7 @@ ghost use mathlib.Core.Bool.{true, cond};
 ghost use Prim.Native.Nat.{_+_, _*_, _≤_, _<_};
 ghost use lib.ListN.{length};
 ghost use Rattle.records.specs.Bytes.{numberAt};
-ghost use Rattle.records.specs.Rule.{entryOf, misdirected, ruleFault, ruleAnswer};
+ghost use Rattle.records.specs.Rule.{entryOf, misdirected, faultyAt, fineAt, takenAt, ruleAnswer};
 use crate::answer::Answer;
 use crate::frame::Frame;
 use crate::frame::frame_of;
@@ -52,34 +52,65 @@ fn misdirects(holds: Holds, arguments: usize, own: usize, e: Entry) -> bool
     }
 }
 
-// The number that an entry of this row gets at its place.
-fn entry_fault(row: Row, own: usize, e: Entry) -> u32
-    ensures { λ r. ⌜ r ≡ cond (misdirected (row .holds) (row .arguments) own e) 3 0 ⌝ }
+// What the record at an offset is taken for: its number, 0 where it has no fault; its entry and where
+// the next record begins, where it has none; else no entry and the same offset.
+pub struct Taken {
+    pub fault: u32,
+    pub entry: Entry,
+    pub next: usize,
+}
+
+// A record that gets a number.
+fn faulty(number: u32, at: usize) -> Taken
+    ensures { λ r. ⌜ (r ≡ faultyAt number at) × (r .entry .kind < 65536) × (r .entry .a < 65536) × (r .entry .b < 65536) ⌝ }
 {
-    let holds = row.holds;
-    if misdirects(holds, row.arguments, own, e) {
-        3
-    } else {
-        0
+    let none = Entry {
+        kind: 0,
+        a: 0,
+        b: 0,
+    };
+    Taken {
+        fault: number,
+        entry: none,
+        next: at,
     }
 }
 
-// The number that the record at an offset gets as entry `own`; 0 where it has no fault.
-fn rule_fault(s: &[u8], own: usize, at: usize) -> u32
-    requires { ⌜ at ≤ length (now s) ⌝ }
-    ensures { λ r. ⌜ r ≡ ruleFault (now (s .entry)) own at ⌝ }
+// A whole record of this row, whose entry is e.
+fn whole_entry(row: Row, own: usize, e: Entry, at: usize, next: usize) -> Taken
+    requires { ⌜ (e .kind < 65536) × (e .a < 65536) × (e .b < 65536) ⌝ }
+    ensures { λ r. ⌜ (r ≡ cond (misdirected (row .holds) (row .arguments) own e) (faultyAt 3 at) (fineAt e next)) × (r .entry .kind < 65536) × (r .entry .a < 65536) × (r .entry .b < 65536) ⌝ }
+{
+    let holds = row.holds;
+    if misdirects(holds, row.arguments, own, e) {
+        faulty(3, at)
+    } else {
+        Taken {
+            fault: 0,
+            entry: e,
+            next: next,
+        }
+    }
+}
+
+// Takes the record at an offset as entry `own`.
+pub fn take_entry(s: &[u8], own: usize, at: usize) -> Taken
+    ensures { λ r. ⌜ (r ≡ takenAt (now (s .entry)) own at) × (r .entry .kind < 65536) × (r .entry .a < 65536) × (r .entry .b < 65536) ⌝ }
 {
     if 64 <= own {
-        return 4;
+        return faulty(4, at);
     }
-    if s.len() - at < 4 {
-        return 2;
+    if s.len() < 4 {
+        return faulty(2, at);
+    }
+    if s.len() - 4 < at {
+        return faulty(2, at);
     }
     let row = row_of(number_at(s, at + 2));
     match frame_of(s, at, row.length) {
-        Frame::Cut => 2,
-        Frame::Garbled => 2,
-        Frame::Whole => entry_fault(row, own, entry_of(row, s, at)),
+        Frame::Cut => faulty(2, at),
+        Frame::Garbled => faulty(2, at),
+        Frame::Whole => whole_entry(row, own, entry_of(row, s, at), at, at + 2 + row.length),
     }
 }
 
@@ -99,11 +130,11 @@ pub fn read_rule(rule: &[u8]) -> Answer
         if at == rule.len() {
             break Answer::Accepted(entries);
         }
-        let fault = rule_fault(rule, entries, at);
-        if fault != 0 {
-            break Answer::Refused(fault, at);
+        let taken = take_entry(rule, entries, at);
+        if taken.fault != 0 {
+            break Answer::Refused(taken.fault, at);
         }
-        at = at + 2 + number_at(rule, at);
+        at = taken.next;
         entries = entries + 1;
     };
     answer

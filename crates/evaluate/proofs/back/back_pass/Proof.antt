@@ -13,7 +13,7 @@ use Rattle.evaluate.proofs.back.back_pass.Tie as tie
 
 abbrev Inv-loop : tie.InvT-loop
 Inv-loop until a b i f marks₀ s₀ marks s =
-    (s ≤ length f) × Passed (length f) i (before-only (backMark until (leads f) (bitsOf marks₀ a) (bitsOf marks₀ b)) s) marks₀ marks
+    (s ≤ length f) × Passed (length f) i (before-only (backMark until (length f) (leads f) (bitsOf marks₀ a) (bitsOf marks₀ b)) s) marks₀ marks
 
 abbrev μ-loop : tie.MeasureT-loop
 μ-loop until a b i f marks₀ s₀ marks s = length f - s
@@ -64,7 +64,7 @@ loop-again c =
     let t = c .before .before .before .before .before .loop-test .taken in (
       omega arith,
       rw (c .back-word .ensures, c .before .before .before .wide .ensures)
-          (ascent-turn (pre .1 .0) _ (l .s) _ t (back-turn _ _ _ _ (l .s) (pre .1 .0) (pre .0 .0) (pre .0 .1) t (pre .1 .1 (l .s) t) (l .inv .1)) (l .inv .1)),
+          (ascent-turn (pre .1 .0) _ (l .s) _ t (back-turn (c .before .before .before .before .before .before .before .before .before .args .f .now) _ _ _ (l .s) (pre .1 .0) (pre .0 .0) (pre .0 .1) t (pre .1 .1 (l .s) t) (l .inv .1)) (l .inv .1)),
     )
 
 same-length : tie.Need-same-length Inv-loop μ-loop

@@ -1,7 +1,11 @@
 -- `mark_entry`: each kind has its pass, and the pass leaves what the kind means. Assumes nothing.
+use mathlib.Core.Path.{ap}
+use Rattle.records.specs.declared.kind.Axis.the-variants.{Child as child, Parent as parent, Next as next, Previous as previous}
+use Rattle.meaning.specs.Tree.{direction}
+use Rattle.records.specs.Kinds.{kindOf}
 use mathlib.Core.List.{[]}
-use Rattle.evaluate.specs.Steps.{passMark, Nearest}
-use Rattle.evaluate.proofs.KindLaws.{range-under, column-room, passed-means, passed-local, ups-nearest}
+use Rattle.evaluate.specs.Steps.{backMark, aheadMark, Nearest}
+use Rattle.evaluate.proofs.KindLaws.{range-under, column-room, passed-some, passed-until, passed-every, passed-local, ups-nearest}
 use borrow.Author.Needs.{needs}
 use native.Mathlib.Omega.{arith}
 use Rattle.evaluate.proofs.entry.mark_entry.Statement.{statement}
@@ -74,91 +78,91 @@ same-length : tie.Need-same-length
 same-length c = search needs
 
 returns : tie.Need-returns
-unfolding passMark
+unfolding direction backMark aheadMark
 returns c =
     let p = c .before .before .before .before .before .before .before .before .before .before .pre in
     let k = p .1 .1 .1 .0 in
-    passed-means k _ _ _ (p .1 .0) (c .before .before .before .before .match .keys1) (k .ups-long) (c .before .before .gather-pass .ensures)
+    passed-some k _ _ _ child (ap kindOf (c .before .before .before .before .match .keys1)) (c .before .before .gather-pass .ensures)
 
 same-length-2 : tie.Need-same-length-2
 same-length-2 c = search needs
 
 returns-2 : tie.Need-returns-2
-unfolding passMark
+unfolding direction backMark aheadMark
 returns-2 c =
     let p = c .before .before .before .before .before .before .before .before .before .before .pre in
     let k = p .1 .1 .1 .0 in
-    passed-means k _ _ _ (p .1 .0) (c .before .before .before .before .match .keys2) (k .ups-long) (c .before .before .back-pass .ensures)
+    passed-some k _ _ _ parent (ap kindOf (c .before .before .before .before .match .keys2)) (c .before .before .back-pass .ensures)
 
 same-length-3 : tie.Need-same-length-3
 same-length-3 c = search needs
 
 returns-3 : tie.Need-returns-3
-unfolding passMark
+unfolding direction backMark aheadMark
 returns-3 c =
     let p = c .before .before .before .before .before .before .before .before .before .before .pre in
     let k = p .1 .1 .1 .0 in
-    passed-means k _ _ _ (p .1 .0) (c .before .before .before .before .match .keys3) (k .lefts-long) (c .before .before .gather-pass2 .ensures)
+    passed-some k _ _ _ next (ap kindOf (c .before .before .before .before .match .keys3)) (c .before .before .gather-pass2 .ensures)
 
 same-length-4 : tie.Need-same-length-4
 same-length-4 c = search needs
 
 returns-4 : tie.Need-returns-4
-unfolding passMark
+unfolding direction backMark aheadMark
 returns-4 c =
     let p = c .before .before .before .before .before .before .before .before .before .before .pre in
     let k = p .1 .1 .1 .0 in
-    passed-means k _ _ _ (p .1 .0) (c .before .before .before .before .match .keys4) (k .lefts-long) (c .before .before .back-pass2 .ensures)
+    passed-some k _ _ _ previous (ap kindOf (c .before .before .before .before .match .keys4)) (c .before .before .back-pass2 .ensures)
 
 same-length-5 : tie.Need-same-length-5
 same-length-5 c = search needs
 
 returns-5 : tie.Need-returns-5
-unfolding passMark
+unfolding direction backMark aheadMark
 returns-5 c =
     let p = c .before .before .before .before .before .before .before .before .before .before .pre in
     let k = p .1 .1 .1 .0 in
-    passed-means k _ _ _ (p .1 .0) (c .before .before .before .before .match .keys5) (k .ups-long) (c .before .before .turn-pass .ensures)
+    passed-until k _ _ _ child (ap kindOf (c .before .before .before .before .match .keys5)) (c .before .before .turn-pass .ensures)
 
 same-length-6 : tie.Need-same-length-6
 same-length-6 c = search needs
 
 returns-6 : tie.Need-returns-6
-unfolding passMark
+unfolding direction backMark aheadMark
 returns-6 c =
     let p = c .before .before .before .before .before .before .before .before .before .before .pre in
     let k = p .1 .1 .1 .0 in
-    passed-means k _ _ _ (p .1 .0) (c .before .before .before .before .match .keys6) (k .ups-long) (c .before .before .back-pass3 .ensures)
+    passed-until k _ _ _ parent (ap kindOf (c .before .before .before .before .match .keys6)) (c .before .before .back-pass3 .ensures)
 
 same-length-7 : tie.Need-same-length-7
 same-length-7 c = search needs
 
 returns-7 : tie.Need-returns-7
-unfolding passMark
+unfolding direction backMark aheadMark
 returns-7 c =
     let p = c .before .before .before .before .before .before .before .before .before .before .pre in
     let k = p .1 .1 .1 .0 in
-    passed-means k _ _ _ (p .1 .0) (c .before .before .before .before .match .keys7) (k .lefts-long) (c .before .before .turn-pass2 .ensures)
+    passed-until k _ _ _ next (ap kindOf (c .before .before .before .before .match .keys7)) (c .before .before .turn-pass2 .ensures)
 
 same-length-8 : tie.Need-same-length-8
 same-length-8 c = search needs
 
 returns-8 : tie.Need-returns-8
-unfolding passMark
+unfolding direction backMark aheadMark
 returns-8 c =
     let p = c .before .before .before .before .before .before .before .before .before .before .pre in
     let k = p .1 .1 .1 .0 in
-    passed-means k _ _ _ (p .1 .0) (c .before .before .before .before .match .keys8) (k .lefts-long) (c .before .before .back-pass4 .ensures)
+    passed-until k _ _ _ previous (ap kindOf (c .before .before .before .before .match .keys8)) (c .before .before .back-pass4 .ensures)
 
 same-length-9 : tie.Need-same-length-9
 same-length-9 c = search needs
 
 returns-9 : tie.Need-returns-9
-unfolding passMark
+unfolding direction backMark aheadMark
 returns-9 c =
     let p = c .before .before .before .before .before .before .before .before .before .before .pre in
     let k = p .1 .1 .1 .0 in
-    passed-means k _ _ _ (p .1 .0) (c .before .before .before .before .match .keys9) (k .ups-long) (c .before .before .turn-pass3 .ensures)
+    passed-every k _ _ _ (ap kindOf (c .before .before .before .before .match .keys9)) (c .before .before .turn-pass3 .ensures)
 
 same-length-10 : tie.Need-same-length-10
 same-length-10 c = search needs

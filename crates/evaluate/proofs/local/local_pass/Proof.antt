@@ -1,5 +1,6 @@
 -- `local_pass`: each kind has its gate, and kind 2 its own pass. Assumes nothing.
 use mathlib.Core.Path.{_≡_, refl}
+use Rattle.meaning.specs.Marks.{meansHere}
 use Rattle.evaluate.specs.Steps.{localMark, gateMark}
 use Rattle.evaluate.proofs.KindLaws.{range-past, gate-always, gate-not, gate-or, gate-and}
 use Rattle.evaluate.proofs.PassLaws.{passed-same}
@@ -35,7 +36,7 @@ same-length : tie.Need-same-length
 same-length c = search needs
 
 returns : tie.Need-returns
-unfolding gateMark localMark
+unfolding gateMark localMark meansHere
 returns c =
     let room = c .before .before .before .before .before .before .before .pre .1 in
     passed-same room (λ s h. rw (c .before .before .before .before .match .keys1) (gate-always _)) (c .before .before .gate-pass .ensures)
@@ -44,7 +45,7 @@ same-length-2 : tie.Need-same-length-2
 same-length-2 c = search needs
 
 returns-2 : tie.Need-returns-2
-unfolding localMark
+unfolding localMark meansHere
 returns-2 c =
     let room = c .before .before .before .before .before .before .before .pre .1 in
     passed-same room (λ s h. rw (c .before .before .before .before .match .keys2) (refl)) (c .before .before .label-pass .ensures)
@@ -53,7 +54,7 @@ same-length-3 : tie.Need-same-length-3
 same-length-3 c = search needs
 
 returns-3 : tie.Need-returns-3
-unfolding gateMark localMark
+unfolding gateMark localMark meansHere
 returns-3 c =
     let room = c .before .before .before .before .before .before .before .pre .1 in
     passed-same room (λ s h. rw (c .before .before .before .before .match .keys3) (gate-not _)) (c .before .before .gate-pass2 .ensures)
@@ -62,7 +63,7 @@ same-length-4 : tie.Need-same-length-4
 same-length-4 c = search needs
 
 returns-4 : tie.Need-returns-4
-unfolding gateMark localMark
+unfolding gateMark localMark meansHere
 returns-4 c =
     let room = c .before .before .before .before .before .before .before .pre .1 in
     passed-same room (λ s h. rw (c .before .before .before .before .match .keys4) (gate-or _ _)) (c .before .before .gate-pass3 .ensures)
@@ -71,7 +72,7 @@ same-length-5 : tie.Need-same-length-5
 same-length-5 c = search needs
 
 returns-5 : tie.Need-returns-5
-unfolding gateMark localMark
+unfolding gateMark localMark meansHere
 returns-5 c =
     let r = c .before .before .before .before .match .rest in
     let p = c .before .before .before .before .before .before .before .pre in

@@ -1,57 +1,50 @@
--- `pz_close` reads the rule into the columns, and goes on with them where it is accepted. Assumes nothing.
+-- `pz_close` walks the rule once, and goes on where it is accepted. Assumes nothing.
 use native.Mathlib.Omega.{arith}
-use mathlib.Core.Path.{refl, sym, _∙_}
-use Rattle.onepass.proofs.CodeLaws.{filled-entries, accepted-range, refused-place, accepted-call, refused-call}
+use mathlib.Core.Path.{_≡_, sym, _∙_}
+use Rattle.onepass.proofs.CodeLaws.{asked-ahead, refused-place, accepted-call, refused-call}
 use borrow.Author.Needs.{needs}
 use Rattle.onepass.proofs.export.pz_close.Statement.{statement}
 use Rattle.onepass.proofs.export.pz_close.Tie as tie
 
-fill-entries-requires : tie.Need-fill-entries-requires
-fill-entries-requires c κs = search needs
+ask-rule-requires : tie.Need-ask-rule-requires
+ask-rule-requires c κs = search needs
 
-enum-known-n : tie.Need-enum-known-n
-enum-known-n c = search needs
+enum-known-answer : tie.Need-enum-known-answer
+enum-known-answer c = search needs
 
-close-entries-requires : tie.Need-close-entries-requires
-close-entries-requires c κs =
-    let at1 = c .before .before .before .before .before in
-    let at2 = at1 .before .before in
-    accepted-range _ _ _ (at2 .fill-entries .ensures .answer) (at1 .n .given .1) .1
+close-step-requires : tie.Need-close-step-requires
+close-step-requires c κs = search needs
 
-enum-known-number : tie.Need-enum-known-number
-enum-known-number c = search needs
+enum-known-answer-2 : tie.Need-enum-known-answer-2
+enum-known-answer-2 c = search needs
 
-cast-t19 : tie.Need-cast-t19
-cast-t19 c = omega (arith, refused-place _ _ _ _ (c .before .before .before .fill-entries .ensures .answer) (c .before .number .given .1))
+cast-t11 : tie.Need-cast-t11
+cast-t11 c = omega (arith, refused-place _ _ _ _ (c .before .before .before .ask-rule .ensures .answer-is) (c .before .answer2 .given .1))
 
 same-length : tie.Need-same-length
 same-length c = search needs
 
 returns : tie.Need-returns
 returns c =
-    let at1 = c .before .before in
-    let at2 = at1 .before .before .before .before .before .before in
-    let at3 = at2 .before .before in
-    let e = filled-entries _ _ _ _ _ _ _ _ _ (at3 .fill-entries .ensures) (at2 .n .given .1) refl refl refl in
-    let r = accepted-call _ _ _ _ _ _ (sym (at3 .fill-entries .ensures .answer) ∙ at2 .n .given .1) (rw e at (at1 .close-entries .ensures))
-    in
+    let w = c .before .before .before .before .before .before .before .ask-rule .ensures in
+    let a = c .before .before .before .before .before .answer .given .1 in
+    let r = accepted-call _ _ _ _ _ _ (sym (w .answer-is) ∙ a) (c .before .before .close-step .ensures _ (asked-ahead _ _ _ w a)) in
     record { answer = r .0; state-is = r .1 }
 
 returns-2 : tie.Need-returns-2
 returns-2 c =
-    let at1 = c .before .before .before in
-    let r = refused-call _ _ _ _ _ (sym (at1 .fill-entries .ensures .answer) ∙ c .before .number .given .1) in
+    let r = refused-call _ _ _ _ _ (sym (c .before .before .before .ask-rule .ensures .answer-is) ∙ c .before .answer2 .given .1) in
     record { answer = r .0; state-is = r .1 }
 
 pub pz-close-spec : {M : Type 1} → statement M
 pz-close-spec =
     tie.close
     (tie.spec
-    fill-entries-requires
-    enum-known-n
-    close-entries-requires
-    enum-known-number
-    cast-t19
+    ask-rule-requires
+    enum-known-answer
+    close-step-requires
+    enum-known-answer-2
+    cast-t11
     same-length
     returns
     returns-2)

@@ -1,9 +1,7 @@
--- `record_fault` goes through the rows 6, 7, 8 in their order. Assumes nothing.
+-- `record_fault` goes by the kind. Assumes nothing.
 use native.Mathlib.Omega.{arith}
-use mathlib.Core.Path.{_≡_, refl, ap, sym, _∙_}
-use Rattle.records.specs.Frame.{frameOf}
-use Rattle.records.specs.Report.{reportLength}
-use Rattle.records.proofs.ReportLaws.{record-few, record-broken, record-whole, open-room}
+use mathlib.Core.Path.{_≡_, refl, sym, _∙_}
+use Rattle.records.proofs.ReportLaws.{record-few, record-unknown, length-none}
 use borrow.Author.Needs.{needs}
 use Rattle.records.proofs.report.record_fault.Statement.{statement}
 use Rattle.records.proofs.report.record_fault.Tie as tie
@@ -20,46 +18,22 @@ add-number-at c = search needs
 number-at-requires : tie.Need-number-at-requires
 number-at-requires c κs = search needs
 
-report-length-requires : tie.Need-report-length-requires
-report-length-requires c κs = search needs
+opening-fault-requires : tie.Need-opening-fault-requires
+opening-fault-requires c κs = search needs
 
-frame-of-requires : tie.Need-frame-of-requires
-frame-of-requires c κs = search needs
-
-enum-told : tie.Need-enum-told
-enum-told c = search needs
-
-enum-told-2 : tie.Need-enum-told-2
-enum-told-2 c = search needs
-
-enum-told-3 : tie.Need-enum-told-3
-enum-told-3 c = search needs
-
-tag-fault-requires : tie.Need-tag-fault-requires
-tag-fault-requires c κs =
-    let f = c .before .before in (
-      omega arith,
-      open-room _ _ (sym (c .enum-told3 .given .1) ∙ f .frame-of .ensures
-          ∙ ap (frameOf _ _) (f .before .report-length .ensures ∙ ap reportLength (f .before .before .number-at .ensures .0))),
-    )
+closing-fault-requires : tie.Need-closing-fault-requires
+closing-fault-requires c κs = search needs
 
 returns-2 : tie.Need-returns-2
-returns-2 c =
-    let f = c .before .before in
-    record-broken _ _ _ _ _ (sym (c .enum-told .given .1) ∙ f .frame-of .ensures
-    ∙ ap (frameOf _ _) (f .before .report-length .ensures ∙ ap reportLength (f .before .before .number-at .ensures .0))) refl
+returns-2 c = search needs
 
 returns-3 : tie.Need-returns-3
-returns-3 c =
-    let f = c .before .before in
-    record-broken _ _ _ _ _ (sym (c .enum-told2 .given .1) ∙ f .frame-of .ensures
-    ∙ ap (frameOf _ _) (f .before .report-length .ensures ∙ ap reportLength (f .before .before .number-at .ensures .0))) refl
+returns-3 c = search needs
 
 returns-4 : tie.Need-returns-4
 returns-4 c =
-    let f = c .before .before .before in
-    c .tag-fault .ensures ∙ record-whole _ _ _ _ (sym (c .before .enum-told3 .given .1) ∙ f .frame-of .ensures
-    ∙ ap (frameOf _ _) (f .before .report-length .ensures ∙ ap reportLength (f .before .before .number-at .ensures .0)))
+    let r = c .match .rest in
+    record-unknown _ _ _ _ 0 (length-none _ _ (λ e. r .0 .1 (c .before .number-at .ensures .0 ∙ e)) (λ e. r .1 (c .before .number-at .ensures .0 ∙ e))) (omega arith) refl
 
 pub record-fault-spec : {M : Type 1} → statement M
 record-fault-spec =
@@ -69,12 +43,8 @@ record-fault-spec =
     returns
     add-number-at
     number-at-requires
-    report-length-requires
-    frame-of-requires
-    enum-told
-    enum-told-2
-    enum-told-3
-    tag-fault-requires
+    opening-fault-requires
+    closing-fault-requires
     returns-2
     returns-3
     returns-4)

@@ -1,0 +1,82 @@
+-- The step table along a walk: one entry more behind the others. Assumes nothing.
+use Prim.Native.Nat.{ℕ, zero, suc, _+_, _*_, _^_, _≤_, _<_}
+use native.Mathlib.Numerals.{add-one}
+use native.Mathlib.Omega.{arith}
+use mathlib.Core.Path.{_≡_, refl, sym, ap, _∙_}
+use mathlib.Core.Bool.{Bool, false, not, _||_}
+use mathlib.Core.List.{List, [], _∷_, _++_}
+use lib.ListN.{length, getD, List·getD-append}
+use lib.Seq.{getD-append-add}
+use Rattle.records.specs.declared.answer.Answer.the-variants.{Refused}
+use Rattle.records.specs.declared.rule.Entry.{Entry}
+use Rattle.records.specs.Kinds.{looksBack}
+use Rattle.records.specs.Rule.{entryAt, ruleAnswer}
+use Rattle.records.specs.Tables.{entriesBefore, entriesRead}
+use Rattle.records.proofs.RuleLaws.{RuleMid}
+use Rattle.records.proofs.TableLaws.{entries-length}
+use Rattle.records.proofs.WalkLaws.{entries-more}
+use Rattle.grammar.specs.Rules.{noEntry}
+use Rattle.meaning.specs.Marks.{bit}
+use Rattle.records.specs.Kinds.{kindOf}
+use Rattle.meaning.specs.OnePass.{stepBit, stepWord}
+use Rattle.onepass.specs.Step.{looksAhead}
+use Rattle.onepass.specs.Walk.{Walked, unreadWalk, Asked, unaskedAhead}
+use Rattle.onepass.proofs.StepLaws.{ahead-more}
+
+-- Entries behind the first m play no part in their word.
+pub step-prefix : (es fs : List Entry) (label p q m : ℕ) → m ≤ length es → stepWord (es ++ fs) label p q m ≡ stepWord es label p q m
+unfolding stepWord
+step-prefix es fs label p q zero l = refl
+step-prefix es fs label p q (suc m) l = rw (stepWord, List·getD-append es fs noEntry m (omega arith), step-prefix es fs label p q m (omega arith))
+
+-- The entry behind all others is the last one.
+last-entry : (es : List Entry) (e : Entry) → getD (es ++ (e ∷ [])) (length es) noEntry ≡ e
+last-entry [] e = refl
+last-entry (x ∷ es) e = last-entry es e
+
+-- Between two turns.
+pub record StepMid (s : List ℕ) (label p q i at : ℕ) (ahead : Bool) (w : ℕ) : Type 0 where
+  pub mid : RuleMid s i at
+  pub few : i ≤ 64
+  pub ahead-so : ahead ≡ looksAhead (entriesBefore s i)
+  pub word-so : w ≡ stepWord (entriesBefore s i) label p q i
+
+-- One entry more: its bit is added above the others.
+step-last : (es : List Entry) (e : Entry) (label p q n : ℕ) → length es ≡ n → (on : Bool) (w : ℕ) → w ≡ stepWord es label p q n
+    → on ≡ stepBit (kindOf (e .kind)) (e .a) (e .b) n label w p q → bit on * 2 ^ n + w ≡ stepWord (es ++ (e ∷ [])) label p q (n + 1)
+unfolding stepWord
+step-last es e label p q n l on w z f =
+    let g : getD (es ++ (e ∷ [])) n noEntry ≡ e = ap (λ (x : ℕ). getD (es ++ (e ∷ [])) x noEntry) (sym l) ∙ last-entry es e in
+    let h : stepWord (es ++ (e ∷ [])) label p q n ≡ w = step-prefix es (e ∷ []) label p q n (omega arith) ∙ sym z in
+    rw (add-one n, stepWord, g, h, ← f)
+
+pub word-more : (s : List ℕ) (label p q : ℕ) {i at : ℕ} → RuleMid s i at → (on : Bool) (w : ℕ) (e : Entry) → e ≡ entryAt s at
+    → w ≡ stepWord (entriesBefore s i) label p q i → on ≡ stepBit (kindOf (e .kind)) (e .a) (e .b) i label w p q
+    → bit on * 2 ^ i + w ≡ stepWord (entriesBefore s (i + 1)) label p q (i + 1)
+word-more s label p q {i} {at} m on w e k z f =
+    step-last (entriesBefore s i) e label p q i (entries-length s i) on w z f
+    ∙ ap (λ (es : List Entry). stepWord es label p q (i + 1)) (sym (entries-more s m ∙ ap (λ (x : Entry). entriesBefore s i ++ (x ∷ [])) (sym k)))
+
+pub ahead-then : (s : List ℕ) {i at : ℕ} → RuleMid s i at → (so back : Bool) (e : Entry) → e ≡ entryAt s at
+    → so ≡ looksAhead (entriesBefore s i) → back ≡ looksBack (e .kind) → (so || not back) ≡ looksAhead (entriesBefore s (i + 1))
+ahead-then s {i} {at} m so back e k z f = rw (entries-more s m, ← k, z, f) (sym (ahead-more (entriesBefore s i) e))
+
+-- Where the walk stops.
+pub walk-done : (s : List ℕ) (label p q : ℕ) {i at : ℕ} {ahead : Bool} {w : ℕ} → StepMid s label p q i at ahead w → entriesRead s ≡ entriesBefore s i
+    → (ahead ≡ looksAhead (entriesRead s)) × (w ≡ stepWord (entriesRead s) label p q (length (entriesRead s)))
+walk-done s label p q {i} m r = rw (r, entries-length s i) (m .ahead-so, m .word-so)
+
+-- Nothing was read.
+pub walk-none : (s : List ℕ) (label p q : ℕ) → entriesRead s ≡ [] → Refused 1 0 ≡ ruleAnswer s → Walked s label p q unreadWalk
+unfolding looksAhead stepWord
+walk-none s label p q r a = record { answer-is = a; ahead-is = rw r; word-is = rw r }
+
+-- The same without a step.
+pub record AskMid (s : List ℕ) (i at : ℕ) (ahead : Bool) : Type 0 where
+  pub mid : RuleMid s i at
+  pub few : i ≤ 64
+  pub ahead-so : ahead ≡ looksAhead (entriesBefore s i)
+
+pub ask-none : (s : List ℕ) → entriesRead s ≡ [] → Refused 1 0 ≡ ruleAnswer s → Asked s unaskedAhead
+unfolding looksAhead
+ask-none s r a = record { answer-is = a; ahead-is = rw r }

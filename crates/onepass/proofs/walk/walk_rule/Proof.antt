@@ -1,0 +1,122 @@
+-- `walk_rule`: each turn takes one record, asks whether it looks ahead, and adds its bit. Assumes nothing.
+use native.Mathlib.Omega.{arith}
+use mathlib.Core.Path.{_≡_, refl, ap, sym, subst, _∙_}
+use Prim.Native.Nat.{ℕ, _+_, _≤_, _-_}
+use lib.ListN.{length}
+use Rattle.records.specs.Bytes.{numberAt}
+use Rattle.records.specs.Frame.{nextOf}
+use Rattle.records.specs.Rule.{ruleFault}
+use Rattle.records.specs.Tables.{entriesBefore}
+use Rattle.records.specs.declared.answer.Answer.the-variants.{Refused}
+use Rattle.records.proofs.Reading.{mid-start}
+use Rattle.records.proofs.RuleLaws.{rule-sound, rule-next, rule-turn, rule-accepts, rule-refuses, rule-empty, rule-long, taken-fault, taken-fine}
+use Rattle.records.proofs.WalkLaws.{entries-ended, entries-stopped, entries-none, entries-many}
+use Rattle.meaning.specs.OnePass.{stepWord}
+use Rattle.onepass.specs.Step.{looksAhead}
+use Rattle.onepass.specs.Walk.{Walked}
+use Rattle.onepass.proofs.StepLaws.{step-small}
+use Rattle.onepass.proofs.WalkLaws.{StepMid, word-more, ahead-then, walk-done, walk-none}
+use borrow.Author.Needs.{needs}
+use Rattle.onepass.proofs.walk.walk_rule.Statement.{statement}
+use Rattle.onepass.proofs.walk.walk_rule.Tie as tie
+
+abbrev Inv-loop : tie.InvT-loop
+Inv-loop rule label p q at₀ n₀ w₀ ahead₀ at n w ahead = StepMid rule label p q n at ahead w
+
+abbrev μ-loop : tie.MeasureT-loop
+μ-loop rule label p q at₀ n₀ w₀ ahead₀ at n w ahead = length rule - at
+
+-- After the test of the record in hand: it has no fault, so it is whole and the next one begins within the rule.
+fine : (c : tie.Else4 Inv-loop μ-loop) → ruleFault (c .before .before .before .before .before .before .before .before .args .rule .now) (c .before .before .before .before .loop .n) (c .before .before .before .before .loop .at) ≡ 0
+fine c = sym (taken-fault _ _ _ _ (c .before .before .take-entry .ensures .0)) ∙ c .if4 .left
+
+onward : (c : tie.Else4 Inv-loop μ-loop) → c .before .before .take-entry .result .next ≡ c .before .before .before .before .loop .at + 2 + numberAt (c .before .before .before .before .before .before .before .before .args .rule .now) (c .before .before .before .before .loop .at)
+unfolding nextOf
+onward c = taken-fine _ _ _ _ (c .before .before .take-entry .ensures .0) (c .if4 .left) .1
+
+next : (c : tie.Else4 Inv-loop μ-loop) → c .before .before .before .before .loop .at + 2 + numberAt (c .before .before .before .before .before .before .before .before .args .rule .now) (c .before .before .before .before .loop .at) ≤ length (c .before .before .before .before .before .before .before .before .args .rule .now)
+next c = rule-next _ (c .before .before .before .before .loop .inv .mid) (fine c)
+
+unread-requires : tie.Need-unread-requires Inv-loop μ-loop
+unread-requires c κs = search needs
+
+returns : tie.Need-returns Inv-loop μ-loop
+returns c = rw (c .unread .ensures) (walk-none _ _ _ _ (entries-none _ (c .before .if1 .taken)) (rule-empty _ (c .before .if1 .taken)))
+
+unread-requires-2 : tie.Need-unread-requires-2 Inv-loop μ-loop
+unread-requires-2 c κs = search needs
+
+returns-2 : tie.Need-returns-2 Inv-loop μ-loop
+returns-2 c = rw (c .unread2 .ensures) (walk-none _ _ _ _ (entries-many _ (c .before .if2 .taken)) (rule-long _ (c .before .if2 .taken)))
+
+loop-holds : tie.Need-loop-holds Inv-loop μ-loop
+unfolding looksAhead stepWord entriesBefore
+loop-holds c = record { mid = mid-start _ _; few = omega arith; ahead-so = refl; word-so = refl }
+
+take-entry-requires : tie.Need-take-entry-requires Inv-loop μ-loop
+take-entry-requires c κs = search needs
+
+looks-back-requires : tie.Need-looks-back-requires Inv-loop μ-loop
+looks-back-requires c κs = search needs
+
+step-bit-requires : tie.Need-step-bit-requires Inv-loop μ-loop
+step-bit-requires c κs = search needs
+
+add-bit-requires : tie.Need-add-bit-requires Inv-loop μ-loop
+add-bit-requires c κs = (omega (arith, rule-sound _ _ _ (fine (c .before .before .before)) .0), rw (c .before .before .before .before .before .before .before .loop .inv .word-so) (step-small _ _ _ _ (c .before .before .before .before .before .before .before .loop .n)))
+
+add-n : tie.Need-add-n Inv-loop μ-loop
+add-n c = omega (arith, c .before .before .before .before .before .before .before .before .loop .inv .few)
+
+loop-less : tie.Need-loop-less Inv-loop μ-loop
+loop-less c = omega (arith, next (c .before .before .before .before), onward (c .before .before .before .before))
+
+loop-again : tie.Need-loop-again Inv-loop μ-loop
+loop-again c =
+    let m = c .before .before .before .before .before .before .before .before .loop .inv in
+    let e = taken-fine _ _ _ _ (c .before .before .before .before .before .before .take-entry .ensures .0) (c .before .before .before .before .if4 .left) .0 in
+    record {
+      mid = rw (onward (c .before .before .before .before)) (rule-turn _ (m .mid) (c .before .before .before .before .before .before .before .if3 .left) (fine (c .before .before .before .before)));
+      few = omega (arith, rule-sound _ _ _ (fine (c .before .before .before .before)) .0);
+      ahead-so = ahead-then _ (m .mid) _ _ _ e (m .ahead-so) (c .before .before .looks-back .ensures);
+      word-so = c .add-bit .ensures ∙ word-more _ _ _ _ (m .mid) _ _ _ e (m .word-so) (c .before .step-bit .ensures);
+    }
+
+returns-3 : tie.Need-returns-3 Inv-loop μ-loop
+returns-3 c =
+    let m = c .before .loop .inv in
+    let d = walk-done _ _ _ _ m (entries-ended _ (m .mid) (m .few) (c .before .before .before .if1 .left) (c .before .before .if2 .left) (c .if3 .taken)) in
+    record { answer-is = rule-accepts _ (c .before .before .before .if1 .left) (c .before .before .if2 .left) (m .mid) (m .few) (c .if3 .taken); ahead-is = d .0; word-is = d .1 }
+
+returns-4 : tie.Need-returns-4 Inv-loop μ-loop
+returns-4 c =
+    let m = c .before .before .before .before .loop .inv in
+    let f = taken-fault _ _ _ _ (c .before .before .take-entry .ensures .0) in
+    let wrong : (ruleFault (c .before .before .before .before .before .before .before .before .args .rule .now) (c .before .before .before .before .loop .n) (c .before .before .before .before .loop .at) ≡ 0 → ⊥) = λ z. c .if4 .taken (f ∙ z) in
+    let d = walk-done _ _ _ _ m (entries-stopped _ (m .mid) (m .few) (c .before .before .before .before .before .before .if1 .left) (c .before .before .before .before .before .if2 .left) (c .before .before .before .if3 .left) wrong) in
+    record {
+      answer-is = ap (λ (n : ℕ). Refused n (c .before .before .before .before .loop .at)) f ∙ rule-refuses _ (c .before .before .before .before .before .before .if1 .left) (c .before .before .before .before .before .if2 .left) (m .mid) (m .few) (c .before .before .before .if3 .left) wrong;
+      ahead-is = d .0;
+      word-is = d .1;
+    }
+
+pub walk-rule-spec : {M : Type 1} → statement M
+walk-rule-spec =
+    tie.close
+    (tie.spec
+    Inv-loop
+    μ-loop
+    unread-requires
+    returns
+    unread-requires-2
+    returns-2
+    loop-holds
+    take-entry-requires
+    looks-back-requires
+    step-bit-requires
+    add-bit-requires
+    add-n
+    loop-less
+    loop-again
+    returns-3
+    returns-4)

@@ -1,0 +1,68 @@
+-- `kind_of` finds the table's kind: a single one by its number, a range of kinds by the law that serves every range. Assumes nothing.
+use Prim.Native.Nat.{ℕ, _-_, _≤_}
+use mathlib.Core.Path.{_≡_, refl, ap, sym}
+use native.Mathlib.Omega.{arith}
+use lib.ListN.{List·getD-eq-default}
+use borrow.Author.Needs.{needs}
+use Rattle.records.specs.Kinds.{kindOf, kinds, axisOf}
+use Rattle.records.proofs.KindLaws.{each}
+use Rattle.records.specs.declared.kind.Kind.the-variants.{Nothing, SomeAlong, UntilAlong}
+use Rattle.records.proofs.kind.kind_of.Statement.{statement}
+use Rattle.records.proofs.kind.kind_of.Tie as tie
+
+sub-axis-of : tie.Need-sub-axis-of
+sub-axis-of c = search needs
+
+axis-of-requires : tie.Need-axis-of-requires
+axis-of-requires c κs = search needs
+
+axis-of-requires-2 : tie.Need-axis-of-requires-2
+axis-of-requires-2 c κs = search needs
+
+returns : tie.Need-returns
+unfolding axisOf
+returns c = sym (ap kindOf (c .match .keys1))
+
+returns-2 : tie.Need-returns-2
+unfolding axisOf
+returns-2 c = sym (ap kindOf (c .match .keys2))
+
+returns-3 : tie.Need-returns-3
+unfolding axisOf
+returns-3 c = sym (ap kindOf (c .match .keys3))
+
+returns-4 : tie.Need-returns-4
+unfolding axisOf
+returns-4 c = sym (ap kindOf (c .match .keys4))
+
+returns-5 : tie.Need-returns-5
+unfolding axisOf
+returns-5 c = sym (ap kindOf (c .match .keys5))
+
+returns-6 : tie.Need-returns-6
+unfolding axisOf
+returns-6 c = sym (ap kindOf (c .match .keys6))
+
+returns-7 : tie.Need-returns-7
+unfolding axisOf
+returns-7 c =
+    rw (c .axis-of .ensures)
+    (sym (each (λ k. kindOf k ≡ SomeAlong (axisOf (k - 6))) 6 4 (refl, (refl, (refl, (refl, tt)))) (c .before .before .before .before .args .kind) (omega arith) (omega arith)))
+
+returns-8 : tie.Need-returns-8
+unfolding axisOf
+returns-8 c =
+    rw (c .axis-of2 .ensures)
+    (sym (each (λ k. kindOf k ≡ UntilAlong (axisOf (k - 10))) 10 4 (refl, (refl, (refl, (refl, tt)))) (c .before .before .before .before .before .args .kind) (omega arith) (omega arith)))
+
+returns-9 : tie.Need-returns-9
+unfolding axisOf
+returns-9 c = let z : c .before .before .args .kind ≡ 0 = omega arith in sym (ap kindOf z)
+
+returns-10 : tie.Need-returns-10
+unfolding axisOf
+returns-10 c =
+    let l : 15 ≤ c .before .before .before .before .args .kind = omega arith in sym (List·getD-eq-default kinds Nothing l)
+
+pub kind-of-spec : {M : Type 1} → statement M
+kind-of-spec = tie.close (tie.spec sub-axis-of axis-of-requires axis-of-requires-2 returns returns-2 returns-3 returns-4 returns-5 returns-6 returns-7 returns-8 returns-9 returns-10)
