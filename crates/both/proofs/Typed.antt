@@ -24,7 +24,8 @@ use Rattle.onepass.specs.Step.{Started}
 use Rattle.onepass.specs.Calls.{Call, Calls, tagsOf}
 use Rattle.onepass.specs.declared.export.StepReply.{StepReply}
 use Rattle.onepass.proofs.Agrees.{report-fed}
-use Rattle.paths.specs.Syntax.{Test, namesT, leadsBack}
+use Rattle.records.specs.Kinds.{leadsBack}
+use Rattle.paths.specs.Syntax.{Test, namesT}
 use Rattle.paths.specs.Selection.{Selects}
 use Rattle.paths.specs.Translation.{lastOf, tableOf}
 use Rattle.paths.specs.Answer.{entriesMost, TextOf, bytesFor, taken}

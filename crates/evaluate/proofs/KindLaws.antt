@@ -17,38 +17,33 @@ use Rattle.records.specs.Tables.{over}
 use Rattle.records.proofs.TableLaws.{over-is, over-length, over-at, over-past}
 use Rattle.grammar.specs.Legal.{LegalLevels}
 use Rattle.grammar.specs.Rules.{noEntry, RuleEntries}
-use Rattle.grammar.proofs.Entries.{formed-kind, formed-a, formed-b}
+use Rattle.grammar.proofs.Entries.{formed-kind, formed-entries, formed-a, formed-b}
 use Rattle.grammar.proofs.Tells.{Told, told-same}
 use Rattle.records.specs.declared.kind.Axis.{Axis}
 use Rattle.records.specs.declared.kind.Axis.the-variants.{Child as child, Parent as parent, Next as next, Previous as previous}
 use Rattle.meaning.specs.Tree.{direction}
 use Rattle.meaning.specs.Links.{link}
-use Rattle.records.specs.declared.kind.Kind.{Kind}
-use Rattle.records.specs.declared.kind.Kind.the-variants.{SomeAlong as someAlong, UntilAlong as untilAlong, EveryChild as everyChild}
-use Rattle.records.specs.Kinds.{kindOf}
-use Rattle.meaning.specs.Marks.{bit, bitAt, someOf, everyOf, untilOf, means, mark, word, wordOf, words, selected}
+use Rattle.records.specs.declared.kind.Shape.{Shape}
+use Rattle.records.specs.declared.kind.Shape.the-variants.{Nothing as nothing, Here as here, SomeAlong as someAlong, UntilAlong as untilAlong, EveryChild as everyChild}
+use Rattle.records.specs.declared.kind.Local.{Local}
+use Rattle.records.specs.declared.kind.Numbers.the-variants.{Entries}
+use Rattle.records.specs.Kinds.{shapeOf, numbersOf, leadsBack}
+use Rattle.meaning.specs.Marks.{bit, bitAt, meansHere, means, mark, word, wordOf, words, selected}
 use Rattle.meaning.proofs.Tests.{bool-told}
 use Rattle.meaning.proofs.Reflect.{means-told}
 use Rattle.meaning.proofs.OneStep.{mark-rule, plain}
 use Rattle.meaning.proofs.Words.{pred-sub, bit-small, word-bit, word-lt, words-length, words-at, selected-more}
 use Rattle.evaluate.specs.Links.{leads, Leads, Linked}
 use Rattle.evaluate.specs.Pass.{Stored, Passed, Room, bitsOf, Marked}
-use Rattle.evaluate.specs.Steps.{localMark, Nearest}
+use Rattle.evaluate.specs.Steps.{alongMark, columnOf, aheadMark, Nearest}
 use Rattle.grammar.specs.Columns.{tableOf, entryIn}
 use Rattle.evaluate.specs.declared.ahead.Look.{Look}
 use Rattle.evaluate.specs.declared.ahead.Look.the-variants.{Until, Every}
 use Rattle.evaluate.proofs.LinkLaws.{ups-all, lefts-all, parent-next}
-use Rattle.evaluate.proofs.PassLaws.{stored-start, stored-same, passed-same}
+use Rattle.evaluate.proofs.PassLaws.{stored-start, stored-same, passed-start}
 use Rattle.grammar.proofs.Columns.{table-length, table-at}
 
 -- ---- the table of passes
-
--- One number less of a range, at its start and at its end.
-pub range-past : {k m : ℕ} → m ≤ k → (k ≡ m → ⊥) → suc m ≤ k
-range-past l n = lt-of-le-ne l (λ e. n (sym e))
-
-pub range-under : {k m : ℕ} → k ≤ suc m → (k ≡ suc m → ⊥) → k ≤ m
-range-under l n = le-of-suc-le-suc (lt-of-le-ne l n)
 
 -- The gates of kinds 1, 3, 4 and 5.
 pub gate-always : (x : Bool) → xor (xor x false && xor x true) true ≡ true
@@ -75,69 +70,62 @@ gate-and true false = refl
 gate-and false true = refl
 gate-and false false = refl
 
--- Kinds 1 to 5 are local.
-local-means : (levels labels : List ℕ) (k l : ℕ) (a b : ℕ → Bool) (s : ℕ) → k ≤ 5
-    → localMark (kindOf k) l (getD labels s 0) (a s) (b s) ≡ means levels labels (kindOf k) l a b s
-unfolding localMark means
-local-means levels labels zero l a b s h = refl
-local-means levels labels (suc zero) l a b s h = refl
-local-means levels labels (suc (suc zero)) l a b s h = refl
-local-means levels labels (suc (suc (suc zero))) l a b s h = refl
-local-means levels labels (suc (suc (suc (suc zero)))) l a b s h = refl
-local-means levels labels (suc (suc (suc (suc (suc zero))))) l a b s h = refl
-local-means levels labels (suc (suc (suc (suc (suc (suc k)))))) l a b s h = absurd (omega arith)
-
--- A column as long as there are elements has room for a pass where the elements have.
-pub column-room : {F : ℕ → Option ℕ} {n i : ℕ} {f ws : List ℕ} → length f ≡ n → Leads F n f → Room n i ws
-    → Room (length f) i ws × ((s : ℕ) → s < length f → getD f s 0 ≤ s)
-column-room e r room = rw e (room, r .near)
-
 module _ {levels ups lefts : List ℕ} (linked : Linked levels ups lefts) (labels : List ℕ) where
-  -- The column of an axis, which leads as the axis is found.
-  abbrev column : Axis → List ℕ
-  column child = ups
-  column parent = ups
-  column next = lefts
-  column previous = lefts
-
-  column-all : (x : Axis) → (length (column x) ≡ length levels) × (leads (column x) ≡ link levels x)
-  unfolding link
+  -- The column of an axis leads as the axis is found.
+  column-all : (x : Axis) → (length (columnOf x ups lefts) ≡ length levels) × (leads (columnOf x ups lefts) ≡ link levels x)
+  unfolding columnOf link
   column-all child = (linked .ups-long, ups-all linked)
   column-all parent = (linked .ups-long, ups-all linked)
   column-all next = (linked .lefts-long, lefts-all linked)
   column-all previous = (linked .lefts-long, lefts-all linked)
 
-  -- A pass leaves what a kind means.
-  abbrev Meant : (k : Kind) (a b i : ℕ) (before after : List ℕ) → Type 0
+  column-leads : (x : Axis) (s : ℕ) → s < length levels → getD (columnOf x ups lefts) s 0 ≤ s
+  unfolding columnOf
+  column-leads child = linked .ups-lead .near
+  column-leads parent = linked .ups-lead .near
+  column-leads next = linked .lefts-lead .near
+  column-leads previous = linked .lefts-lead .near
+
+  -- So a pass along it has room where the elements have.
+  pub column-room : (x : Axis) (f : List ℕ) → f ≡ columnOf x ups lefts → {i : ℕ} {ws : List ℕ} → Room (length levels) i ws
+      → Room (length f) i ws × ((s : ℕ) → s < length f → getD f s 0 ≤ s)
+  column-room x f e room = rw (e, column-all x .0) (room, column-leads x)
+
+  -- A pass leaves what a shape means:
+  abbrev Meant : (k : Shape) (a b i : ℕ) (before after : List ℕ) → Type 0
   Meant k a b i before after = Passed (length levels) i (means levels labels k a (bitsOf before a) (bitsOf before b)) before after
 
-  module _ {k : Kind} {i : ℕ} {before after : List ℕ} (a b : ℕ) where
-    -- So does one along the column of an axis, by the kind's shape.
-    pub passed-some : (x : Axis) → k ≡ someAlong x
-        → Passed (length (column x)) i (someOf (direction x) (length (column x)) (leads (column x)) (bitsOf before a)) before after
+  module _ {k : Shape} {i : ℕ} {before after : List ℕ} (a b : ℕ) where
+    -- along the column of an axis,
+    pub passed-some : (x : Axis) (f : List ℕ) → f ≡ columnOf x ups lefts → k ≡ someAlong x
+        → Passed (length f) i (alongMark false (direction x) (length f) (leads f) (bitsOf before a) (bitsOf before b)) before after
         → Meant k a b i before after
-    unfolding means
-    passed-some x e r = rw e (rw (column-all x .0, column-all x .1) at r)
+    unfolding means alongMark
+    passed-some x f c e r = rw e (rw (c, column-all x .0, column-all x .1) at r)
 
-    pub passed-until : (x : Axis) → k ≡ untilAlong x
-        → Passed (length (column x)) i (untilOf (direction x) (length (column x)) (leads (column x)) (bitsOf before a) (bitsOf before b)) before after
+    pub passed-until : (x : Axis) (f : List ℕ) → f ≡ columnOf x ups lefts → k ≡ untilAlong x
+        → Passed (length f) i (alongMark true (direction x) (length f) (leads f) (bitsOf before a) (bitsOf before b)) before after
         → Meant k a b i before after
-    unfolding means
-    passed-until x e r = rw e (rw (column-all x .0, column-all x .1) at r)
+    unfolding means alongMark
+    passed-until x f c e r = rw e (rw (c, column-all x .0, column-all x .1) at r)
 
     pub passed-every : k ≡ everyChild
-        → Passed (length ups) i (everyOf (direction child) (length ups) (leads ups) (bitsOf before a)) before after
+        → Passed (length ups) i (aheadMark Every (length ups) (leads ups) (bitsOf before a) (bitsOf before b)) before after
         → Meant k a b i before after
-    unfolding means
+    unfolding means aheadMark direction leadsBack columnOf
     passed-every e r = rw e (rw (column-all child .0, column-all child .1) at r)
 
-  -- The pass of a local kind leaves what it means.
-  pub passed-local : {kind i : ℕ} {before after : List ℕ} (a b : ℕ) → Room (length levels) i before → kind ≤ 5
-      → length labels ≡ length levels
-      → Passed (length labels) i (λ s. localMark (kindOf kind) a (getD labels s 0) (bitsOf before a s) (bitsOf before b s)) before after
-      → Passed (length levels) i (means levels labels (kindOf kind) a (bitsOf before a) (bitsOf before b)) before after
-  passed-local {kind} {i} {before} {after} a b room h q r =
-      passed-same room (λ s l. local-means levels labels kind a (bitsOf before a) (bitsOf before b) s h) (rw q at r)
+    -- at the element alone,
+    pub passed-local : (asked : Local) → length labels ≡ length levels → k ≡ here asked
+        → Passed (length labels) i (λ s. meansHere asked a (getD labels s 0) (bitsOf before a s) (bitsOf before b s)) before after
+        → Meant k a b i before after
+    unfolding means
+    passed-local asked q e r = rw e (rw q at r)
+
+  -- and nowhere, by doing nothing.
+  pub passed-nothing : {k : Shape} {i : ℕ} {before : List ℕ} (a b : ℕ) → Room (length levels) i before → k ≡ nothing → Meant k a b i before before
+  unfolding means
+  passed-nothing a b room e = rw e (passed-start room)
 
   -- Parents are led to from the very next element.
   pub ups-nearest : LegalLevels levels → Nearest Every ups
@@ -147,7 +135,7 @@ module _ {levels ups lefts : List ℕ} (linked : Linked levels ups lefts) (label
 -- ---- the entries
 
 -- A kind asks a and b at elements only.
-pub means-same : (levels labels : List ℕ) (k : Kind) (l : ℕ) (a a′ b b′ : ℕ → Bool)
+pub means-same : (levels labels : List ℕ) (k : Shape) (l : ℕ) (a a′ b b′ : ℕ → Bool)
     → ((t : ℕ) → t < length levels → a t ≡ a′ t) → ((t : ℕ) → t < length levels → b t ≡ b′ t) → (s : ℕ) → s < length levels
     → means levels labels k l a b s ≡ means levels labels k l a′ b′ s
 means-same levels labels k l a a′ b b′ ea eb s h =
@@ -167,7 +155,7 @@ module _ (levels labels : List ℕ) (entries : List Entry) where
   -- Over the marks of the entries before it, an entry's row is its mark.
   row-mark : RuleEntries entries → (i : ℕ) → i < length entries → (ws : List ℕ)
       → ((s : ℕ) → s < length levels → getD ws s 0 ≡ wordUpTo i s) → (s : ℕ) → s < length levels
-      → means levels labels (kindOf (entry i .kind)) (entry i .a) (bitsOf ws (entry i .a)) (bitsOf ws (entry i .b)) s ≡ mark levels labels entries i s
+      → means levels labels (shapeOf (entry i .kind)) (entry i .a) (bitsOf ws (entry i .a)) (bitsOf ws (entry i .b)) s ≡ mark levels labels entries i s
   row-mark rule i l ws e s h =
       let f = rule .formed i l in
       rw (mark-rule levels labels entries rule i l)
@@ -176,14 +164,14 @@ module _ (levels labels : List ℕ) (entries : List Entry) where
         | no m ↦
             let at : (j : ℕ) → j < i → (t : ℕ) → t < length levels → bitsOf ws j t ≡ mark levels labels entries j t =
             λ j k t q. rw (e t q) (word-bit i j (λ j. mark levels labels entries j t) k) in
-            means-same levels labels (kindOf (entry i .kind)) (entry i .a) _ _ _ _ (at (entry i .a) (formed-a i (entry i) f (omega arith)))
+            means-same levels labels (shapeOf (entry i .kind)) (entry i .a) _ _ _ _ (at (entry i .a) (formed-a i (entry i) f (omega arith)))
             (at (entry i .b) (formed-b i (entry i) f (omega arith))) s h
       ])
 
   -- One entry more.
   pub entry-turn : RuleEntries entries → (i : ℕ) → i < length entries → {before ws after : List ℕ}
       → Stored (length levels) (wordUpTo i) before ws
-      → Passed (length levels) i (means levels labels (kindOf (entry i .kind)) (entry i .a) (bitsOf ws (entry i .a)) (bitsOf ws (entry i .b))) ws after
+      → Passed (length levels) i (means levels labels (shapeOf (entry i .kind)) (entry i .a) (bitsOf ws (entry i .a)) (bitsOf ws (entry i .b))) ws after
       → Stored (length levels) (wordUpTo (i + 1)) before after
   unfolding word
   entry-turn rule i l {before} {ws} {after} r p =
@@ -246,17 +234,14 @@ module _ (n : ℕ) (kinds firsts seconds : List ℕ) (rule : RuleEntries (tableO
     within : i < length (tableOf n kinds firsts seconds)
     within = omega (arith, table-length kinds firsts seconds n)
 
-    -- The numbers in its columns are what an entry of its kind may have.
-    pub table-fits : (1 ≤ getD kinds i 0) × (getD kinds i 0 ≤ 14) × (3 ≤ getD kinds i 0 → (getD firsts i 0 < i) × (getD seconds i 0 < i))
-    table-fits =
-        let f = rw (table-at kinds firsts seconds n i l) at (rule .formed i within) in
-        let e = entryIn kinds firsts seconds i in
-        (formed-kind i e f .0, formed-kind i e f .1, λ h. (formed-a i e f h, formed-b i e f h))
+    -- The numbers in its columns are below i, where they are entry numbers.
+    pub table-fits : numbersOf (shapeOf (getD kinds i 0)) ≡ Entries → (getD firsts i 0 < i) × (getD seconds i 0 < i)
+    table-fits = formed-entries i (entryIn kinds firsts seconds i) (rw (table-at kinds firsts seconds n i l) at (rule .formed i within))
 
     -- One entry more.
     pub table-turn : (levels labels : List ℕ) {before ws after : List ℕ}
         → Stored (length levels) (wordUpTo levels labels (tableOf n kinds firsts seconds) i) before ws
-        → Passed (length levels) i (means levels labels (kindOf (getD kinds i 0)) (getD firsts i 0) (bitsOf ws (getD firsts i 0)) (bitsOf ws (getD seconds i 0))) ws after
+        → Passed (length levels) i (means levels labels (shapeOf (getD kinds i 0)) (getD firsts i 0) (bitsOf ws (getD firsts i 0)) (bitsOf ws (getD seconds i 0))) ws after
         → Stored (length levels) (wordUpTo levels labels (tableOf n kinds firsts seconds) (i + 1)) before after
     table-turn levels labels r p =
         entry-turn levels labels (tableOf n kinds firsts seconds) rule i within r (rw (table-at kinds firsts seconds n i l) p)

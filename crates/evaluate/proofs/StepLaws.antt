@@ -11,12 +11,12 @@ use mathlib.Core.Option.{Option, none, some}
 use lib.Dec.{leb, ltb, eqb}
 use lib.ListN.{length, getD}
 use Rattle.grammar.proofs.Tells.{Told, holds, fails, told-same, leb-told, or-told, and-told}
-use Rattle.meaning.specs.Tree.{forward}
+use Rattle.meaning.specs.Tree.{forward, backward}
 use Rattle.meaning.specs.Marks.{at, anyBelow, bitAt, someOf, everyOf}
 use Rattle.meaning.proofs.Tests.{Finds, ahead, behind, bool-told, any-told, until-is}
 use Rattle.evaluate.specs.Links.{leads, leadsTo}
 use Rattle.evaluate.specs.Pass.{Passed, Room, bitsOf}
-use Rattle.evaluate.specs.Steps.{gateMark, backStep, backMark, ownStep, givenStep, aheadMark}
+use Rattle.evaluate.specs.Steps.{gateMark, backStep, alongMark, ownStep, givenStep, aheadMark}
 use Rattle.evaluate.specs.declared.ahead.Look.{Look}
 use Rattle.evaluate.specs.declared.ahead.Look.the-variants.{Until, Every}
 use Rattle.evaluate.specs.declared.local.Gate.{Gate}
@@ -42,8 +42,8 @@ gate-turn {n} {i} {before} {after} g a b s room l r =
 
 -- The mark is the step over the element's own bits and over bit a and the mark where F leads.
 pub back-own : {R : ℕ → ℕ → Type 0} {F : ℕ → Option ℕ} {n : ℕ} → Finds R F n → (until : Bool) (a b : ℕ → Bool) (s : ℕ) → s < n
-    → backMark until n F a b s ≡ backStep until (a s) (b s) (at (F s) a) (at (F s) (backMark until n F a b))
-unfolding backMark someOf
+    → alongMark until backward n F a b s ≡ backStep until (a s) (b s) (at (F s) a) (at (F s) (alongMark until backward n F a b))
+unfolding alongMark someOf
 back-own finds true a b s l = until-is (behind finds) a b s l
 back-own finds false a b s l = refl
 
@@ -54,14 +54,14 @@ and-again false x = refl
 -- What the pass reads at an element and where the column leads gives the element's mark.
 pub back-turn : {i : ℕ} {before after : List ℕ} (f : List ℕ) (until : Bool) (a b s : ℕ) → Room (length f) i before → a < i → b < i
     → s < length f → getD f s 0 ≤ s
-    → Passed (length f) i (before-only (backMark until (length f) (leads f) (bitsOf before a) (bitsOf before b)) s) before after
+    → Passed (length f) i (before-only (alongMark until backward (length f) (leads f) (bitsOf before a) (bitsOf before b)) s) before after
     → backStep until (bitAt (getD after s 0) a) (bitAt (getD after s 0) b) (ltb (getD f s 0) s && bitAt (getD after (getD f s 0) 0) a)
     (ltb (getD f s 0) s && bitAt (getD after (getD f s 0) 0) i)
-    ≡ backMark until (length f) (leads f) (bitsOf before a) (bitsOf before b) s
+    ≡ alongMark until backward (length f) (leads f) (bitsOf before a) (bitsOf before b) s
 back-turn {i} {before} {after} f until a b s room la lb l h r =
     let k : getD f s 0 < length f = omega arith in
     rw (passed-under room r s l a la, passed-under room r s l b lb, passed-under room r (getD f s 0) k a la, passed-bit room r (getD f s 0) k, and-again)
-    (rw (← at-leads s (getD f s 0) (bitsOf before a), ← at-leads s (getD f s 0) (backMark until (length f) (leads f) (bitsOf before a) (bitsOf before b)), ← leads-at f s l)
+    (rw (← at-leads s (getD f s 0) (bitsOf before a), ← at-leads s (getD f s 0) (alongMark until backward (length f) (leads f) (bitsOf before a) (bitsOf before b)), ← leads-at f s l)
     (sym (back-own (leads-finds f) until (bitsOf before a) (bitsOf before b) s l)))
 
 -- ---- from the last element on

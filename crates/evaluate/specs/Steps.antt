@@ -8,22 +8,14 @@ use mathlib.Core.Path.{_≡_}
 use mathlib.Core.Bool.{Bool, true, false, cond, not, xor, _&&_, _||_}
 use mathlib.Core.List.{List}
 use mathlib.Core.Option.{Option, some}
-use Rattle.meaning.specs.Tree.{forward, backward}
-use Rattle.records.specs.declared.kind.Kind.{Kind}
-use Rattle.records.specs.declared.kind.Kind.the-variants.{Nothing as nothing, Here as local, SomeAlong as someAlong, UntilAlong as untilAlong, EveryChild as everyChild}
-use Rattle.meaning.specs.Marks.{meansHere, someOf, everyOf, untilOf}
+use Rattle.records.specs.declared.kind.Axis.{Axis}
+use Rattle.records.specs.declared.kind.Axis.the-variants.{Child, Parent, Next, Previous}
+use Rattle.meaning.specs.Tree.{Direction, forward}
+use Rattle.meaning.specs.Marks.{someOf, everyOf, untilOf}
 use Rattle.evaluate.specs.Links.{leads}
 use Rattle.evaluate.specs.declared.ahead.Look.{Look}
 use Rattle.evaluate.specs.declared.ahead.Look.the-variants.{Until, Every}
 use Rattle.evaluate.specs.declared.local.Gate.{Gate}
-
--- Kinds 1 to 5 at an element: `label` is the entry's, `own` the element's, a and b its bits.
-unfoldable pub localMark : Kind → (label own : ℕ) (a b : Bool) → Bool
-localMark (local k) label own a b = meansHere k label own a b
-localMark nothing label own a b = false
-localMark (someAlong x) label own a b = false
-localMark (untilAlong x) label own a b = false
-localMark everyChild label own a b = false
 
 -- What a gate makes of two bits: each is inverted where the gate says so, they are joined by and, and the outcome is inverted where the
 -- gate says so.
@@ -36,10 +28,17 @@ gateMark g x y = xor (xor x (g .0) && xor y (g .1)) (g .2)
 abbrev pub backStep : (until a b back mark : Bool) → Bool
 backStep until a b back mark = cond until (b || (a && mark)) back
 
--- The marks of such a pass.
-unfoldable pub backMark : (until : Bool) → ℕ → (F : ℕ → Option ℕ) (a b : ℕ → Bool) → ℕ → Bool
-backMark true n F a b s = untilOf backward n F a b s
-backMark false n F a b s = someOf backward n F a s
+-- The marks of a pass along an axis with a direction, which F finds: at the end of a way, or at some neighbour.
+unfoldable pub alongMark : (until : Bool) → Direction → ℕ → (F : ℕ → Option ℕ) (a b : ℕ → Bool) → ℕ → Bool
+alongMark true d n F a b s = untilOf d n F a b s
+alongMark false d n F a b s = someOf d n F a s
+
+-- The column that an axis is found by.
+unfoldable pub columnOf : Axis → (ups lefts : List ℕ) → List ℕ
+columnOf Child ups lefts = ups
+columnOf Parent ups lefts = ups
+columnOf Next ups lefts = lefts
+columnOf Previous ups lefts = lefts
 
 -- ---- passes for what elements after have
 

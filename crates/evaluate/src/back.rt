@@ -4,10 +4,11 @@ ghost use mathlib.Core.Bool.{_&&_, _||_};
 ghost use Prim.Native.Nat.{ℕ, _*_, _^_, _≤_, _<_};
 ghost use lib.Bits.{bitOr};
 ghost use lib.ListN.{length, getD};
+ghost use Rattle.meaning.specs.Tree.{backward};
 ghost use Rattle.meaning.specs.Marks.{bit, bitAt};
 ghost use Rattle.evaluate.specs.Links.{leads};
 ghost use Rattle.evaluate.specs.Pass.{Passed, Room, bitsOf};
-ghost use Rattle.evaluate.specs.Steps.{backStep, backMark};
+ghost use Rattle.evaluate.specs.Steps.{backStep, alongMark};
 use crate::word::bit_where;
 use crate::word::put_number;
 use crate::word::wide;
@@ -38,7 +39,7 @@ pub(crate) fn back_pass(until: bool, a: usize, b: usize, i: usize, f: &[u16], ma
     requires { ⌜ (a < i) × (b < i) ⌝ }
     requires { ⌜ Room (length (now f)) i (now marks) ⌝ }
     requires { ⌜ ((s : ℕ) → s < length (now f) → getD (now f) s 0 ≤ s) ⌝ }
-    ensures { λ _. ⌜ Passed (length (now (f .entry))) i (backMark until (length (now (f .entry))) (leads (now (f .entry))) (bitsOf (now (marks .entry)) a) (bitsOf (now (marks .entry)) b)) (now (marks .entry)) (now (marks .exit)) ⌝ }
+    ensures { λ _. ⌜ Passed (length (now (f .entry))) i (alongMark until backward (length (now (f .entry))) (leads (now (f .entry))) (bitsOf (now (marks .entry)) a) (bitsOf (now (marks .entry)) b)) (now (marks .entry)) (now (marks .exit)) ⌝ }
 {
     let mut s: usize = 0;
     while s < f.len() {

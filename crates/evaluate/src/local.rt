@@ -3,12 +3,14 @@ ghost use mathlib.Core.Path.{_≡_};
 ghost use Prim.Native.Nat.{_≤_, _<_};
 ghost use lib.Dec.{eqb};
 ghost use lib.ListN.{length, getD};
-ghost use Rattle.records.specs.Kinds.{kindOf};
-ghost use Rattle.meaning.specs.Marks.{bitAt};
+ghost use Rattle.records.specs.Kinds.{localNumbers};
+ghost use Rattle.records.specs.declared.kind.Numbers.the-variants.{Entries};
+ghost use Rattle.meaning.specs.Marks.{bitAt, meansHere};
 ghost use Rattle.evaluate.specs.Pass.{Passed, Room, bitsOf};
-ghost use Rattle.evaluate.specs.Steps.{localMark, gateMark};
+ghost use Rattle.evaluate.specs.Steps.{gateMark};
 use crate::word::put_bit;
 use crate::word::wide;
+use records::kind::Local;
 
 // What kinds 1, 3, 4 and 5 make of two bits: an and, with the first bit, the second and the outcome each
 // inverted or not, in this order. With the gate of its kind an entry's loop has no branch, and takes
@@ -52,26 +54,26 @@ fn label_pass(label: usize, i: usize, labels: &[u16], marks: &mut [u64])
     }
 }
 
-// Entry i at every element, by the elements' labels and own words. Kind 1 is the inverse of a bit and its
-// own inverse, of whichever bit; kind 3 that of a bit twice.
+// Entry i at every element, by what is asked of it alone. "Always" is the inverse of a bit and its own
+// inverse, of whichever bit; "not" is that of a bit twice.
 pub(crate) fn local_pass(
-    kind: usize,
+    asked: Local,
     a: usize,
     b: usize,
     i: usize,
     labels: &[u16],
     marks: &mut [u64],
 )
-    requires { ⌜ (1 ≤ kind) × (kind ≤ 5) × (3 ≤ kind → (a < i) × (b < i)) ⌝ }
+    requires { ⌜ (localNumbers asked ≡ Entries → (a < i) × (b < i)) ⌝ }
     requires { ⌜ Room (length (now labels)) i (now marks) ⌝ }
-    ensures { λ _. ⌜ Passed (length (now (labels .entry))) i (λ s. localMark (kindOf kind) a (getD (now (labels .entry)) s 0) (bitsOf (now (marks .entry)) a s) (bitsOf (now (marks .entry)) b s)) (now (marks .entry)) (now (marks .exit)) ⌝ }
+    ensures { λ _. ⌜ Passed (length (now (labels .entry))) i (λ s. meansHere asked a (getD (now (labels .entry)) s 0) (bitsOf (now (marks .entry)) a s) (bitsOf (now (marks .entry)) b s)) (now (marks .entry)) (now (marks .exit)) ⌝ }
 {
     let n = labels.len();
-    match kind {
-        1 => gate_pass(Gate(false, true, true), 0, 0, i, n, marks),
-        2 => label_pass(a, i, labels, marks),
-        3 => gate_pass(Gate(true, true, false), a, a, i, n, marks),
-        4 => gate_pass(Gate(true, true, true), a, b, i, n, marks),
-        _ => gate_pass(Gate(false, false, false), a, b, i, n, marks),
+    match asked {
+        Local::Always => gate_pass(Gate(false, true, true), 0, 0, i, n, marks),
+        Local::HasLabel => label_pass(a, i, labels, marks),
+        Local::Negation => gate_pass(Gate(true, true, false), a, a, i, n, marks),
+        Local::Disjunction => gate_pass(Gate(true, true, true), a, b, i, n, marks),
+        Local::Conjunction => gate_pass(Gate(false, false, false), a, b, i, n, marks),
     }
 }

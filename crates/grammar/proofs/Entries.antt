@@ -12,11 +12,12 @@ use lib.Seq.{getD-at}
 use borrow.Author.Tests.{lt-leb}
 use Rattle.records.specs.Answer.{countOf}
 use Rattle.records.specs.Frame.{kindAt, startOf}
-use Rattle.records.specs.Kinds.{rowOf, ruleLength}
+use Rattle.records.specs.Kinds.{rowOf, ruleLength, numbersOf, shapeOf}
 use Rattle.records.specs.Rule.{entryOf, entryAt, ruleAnswer, ruleFaults}
 use Rattle.records.specs.Tables.{entriesBefore, entriesOf}
 use Rattle.records.specs.declared.answer.Answer.{Answer}
 use Rattle.records.specs.declared.answer.Answer.the-variants.{Accepted, Refused}
+use Rattle.records.specs.declared.kind.Numbers.the-variants.{Entries}
 use Rattle.records.specs.declared.rule.Entry.{Entry}
 use Rattle.grammar.specs.Rules.{noEntry, WellFormed}
 use Rattle.grammar.specs.When.{Sized, bad-label, bad-a, bad-b, Ended}
@@ -31,26 +32,27 @@ module _ (own : ℕ) (e : Entry) (formed : WellFormed own e) where
   pub formed-kind : (1 ≤ e .kind) × (e .kind ≤ 14)
   formed-kind = known-range (e .kind) (formed .known)
 
-  -- Its first entry number is below its own, where it has entry numbers.
-  pub formed-a : 3 ≤ e .kind → e .a < own
-  formed-a l =
-      let h = kind-entries (e .kind) l (formed-kind .1) in
-      let n : own ≤ e .a → ⊥ = λ o. formed .directed (bad-a h o) in omega arith
+  -- Where its numbers are entry numbers, they are below its own; 0 stands for a second that it has not.
+  pub formed-entries : numbersOf (shapeOf (e .kind)) ≡ Entries → (e .a < own) × (e .b < own)
+  formed-entries h =
+      let n : own ≤ e .a → ⊥ = λ o. formed .directed (bad-a h o) in
+      let a : e .a < own = omega arith in
+      (a, elim (decLt (rowOf (e .kind) .arguments) 2) [
+        | yes f ↦ omega (arith, formed .no-b f, a)
+        | no t ↦ let m : own ≤ e .b → ⊥ = λ o. formed .directed (bad-b h (omega arith) o) in omega arith
+      ])
 
-  -- So is its second, or the 0 that stands for it where it has one only.
+  -- So it is of kinds 3 to 14.
+  pub formed-a : 3 ≤ e .kind → e .a < own
+  formed-a l = formed-entries (kind-entries (e .kind) l (formed-kind .1)) .0
+
   pub formed-b : 3 ≤ e .kind → e .b < own
-  formed-b l =
-      elim (decLt (rowOf (e .kind) .arguments) 2) [
-        | yes f ↦ omega (arith, formed .no-b f, formed-a l)
-        | no t ↦
-            let h = kind-entries (e .kind) l (formed-kind .1) in
-            let n : own ≤ e .b → ⊥ = λ o. formed .directed (bad-b h (omega arith) o) in omega arith
-      ]
+  formed-b l = formed-entries (kind-entries (e .kind) l (formed-kind .1)) .1
 
   -- Its label is in 1..999, where it has one.
   pub formed-label : e .kind ≡ 2 → (1 ≤ e .a) × (e .a ≤ 999)
   formed-label k =
-      let h = ap (λ (x : ℕ). rowOf x .holds) k ∙ kind-label in
+      let h = ap (λ (x : ℕ). numbersOf (shapeOf x)) k ∙ kind-label in
       let low : e .a < 1 → ⊥ = λ o. formed .directed (bad-label h (inl o)) in
       let high : 999 < e .a → ⊥ = λ o. formed .directed (bad-label h (inr o)) in (omega arith, omega arith)
 

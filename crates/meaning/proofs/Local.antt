@@ -18,16 +18,14 @@ use Rattle.grammar.specs.Rules.{noEntry}
 use Rattle.meaning.specs.Links.{link}
 use Rattle.records.specs.declared.kind.Axis.{Axis}
 use Rattle.meaning.specs.Tree.{backward, direction}
-use Rattle.records.specs.declared.kind.Kind.{Kind}
-use Rattle.records.specs.declared.kind.Kind.the-variants.{Nothing as nothing, Here as local, SomeAlong as someAlong, UntilAlong as untilAlong, EveryChild as everyChild}
-use Rattle.records.specs.Kinds.{kindOf}
-use Rattle.meaning.specs.Meaning.{kindLooksBack}
+use Rattle.records.specs.declared.kind.Shape.{Shape}
+use Rattle.records.specs.declared.kind.Shape.the-variants.{Nothing as nothing, Here as local, SomeAlong as someAlong, UntilAlong as untilAlong, EveryChild as everyChild}
+use Rattle.records.specs.Kinds.{rowOf, shapeOf, leadsBack, shapeLooksBack}
 use Rattle.meaning.specs.Marks.{at, someOf, untilOf, means, below, mark, wordOf, verdict}
 use Rattle.meaning.specs.OnePass.{LooksBack}
 use Rattle.meaning.proofs.Links.{Agree, link-prefix}
 use Rattle.meaning.proofs.Tests.{found-down, until-is}
 use Rattle.meaning.proofs.Reflect.{axis-along}
-use Rattle.meaning.proofs.LooksBack.{looks-is, leads-back}
 use Rattle.meaning.proofs.Words.{word-same}
 
 -- Tests that agree at the element that is found pass alike there.
@@ -38,6 +36,11 @@ at-same (some t) p q h = h t refl
 pick-same : (q : Bool) (s : ℕ) (f g f′ g′ : ℕ → Bool) → f s ≡ f′ s → g s ≡ g′ s → cond q f g s ≡ cond q f′ g′ s
 pick-same true s f g f′ g′ e d = e
 pick-same false s f g f′ g′ e d = d
+
+-- An axis that leads back has that direction.
+leads-back : (x : Axis) → leadsBack x ≡ true → direction x ≡ backward
+unfolding direction
+leads-back x e = rw e
 
 -- Two tests agree up to s.
 abbrev Alike : ℕ → (ℕ → Bool) → (ℕ → Bool) → Type 0
@@ -63,22 +66,22 @@ module _ (levels levels′ labels labels′ : List ℕ) (s : ℕ) (l : s < lengt
 
   module _ (label : ℕ) (a b a′ b′ : ℕ → Bool) (ea : Alike s a a′) (eb : Alike s b b′) (t : ℕ) (m : t ≤ s) where
     -- A kind that looks back asks nothing past s.
-    means-same : (k : Kind) → kindLooksBack k ≡ true → means levels labels k label a b t ≡ means levels′ labels′ k label a′ b′ t
-    unfolding means kindLooksBack
+    means-same : (k : Shape) → shapeLooksBack k ≡ true → means levels labels k label a b t ≡ means levels′ labels′ k label a′ b′ t
+    unfolding means shapeLooksBack
     means-same nothing e = refl
     means-same (local k) e = rw (named t m, ea t m, eb t m)
-    means-same (someAlong x) e = some-same x (leads-back _ e) a a′ t m (λ u h. ea u (omega arith))
-    means-same (untilAlong x) e = until-same x (leads-back _ e) a b a′ b′ ea eb (suc t) t (omega arith) m
+    means-same (someAlong x) e = some-same x (leads-back x e) a a′ t m (λ u h. ea u (omega arith))
+    means-same (untilAlong x) e = until-same x (leads-back x e) a b a′ b′ ea eb (suc t) t (omega arith) m
     means-same everyChild e = clash e refl
 
   module _ (entries : List Entry) (back : LooksBack entries) where
     entry-same : (k : ℕ) (a b a′ b′ : ℕ → Bool) → Alike s a a′ → Alike s b b′ → (t : ℕ) → t ≤ s
-        → means levels labels (kindOf (getD entries k noEntry .kind)) (getD entries k noEntry .a) a b t
-        ≡ means levels′ labels′ (kindOf (getD entries k noEntry .kind)) (getD entries k noEntry .a) a′ b′ t
-    unfolding means
+        → means levels labels (shapeOf (getD entries k noEntry .kind)) (getD entries k noEntry .a) a b t
+        ≡ means levels′ labels′ (shapeOf (getD entries k noEntry .kind)) (getD entries k noEntry .a) a′ b′ t
+    unfolding means rowOf
     entry-same k a b a′ b′ ea eb t m =
         elim (decLt k (length entries)) [
-          | yes i ↦ means-same (getD entries k noEntry .a) a b a′ b′ ea eb t m (kindOf (getD entries k noEntry .kind)) (sym (looks-is _) ∙ back k i)
+          | yes i ↦ means-same (getD entries k noEntry .a) a b a′ b′ ea eb t m (shapeOf (getD entries k noEntry .kind)) (back k i)
           | no i ↦ let n : length entries ≤ k = omega arith in rw (List·getD-eq-default entries noEntry n)
         ]
 

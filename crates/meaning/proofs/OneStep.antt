@@ -14,7 +14,7 @@ use lib.ListN.{length, getD}
 use Rattle.records.specs.declared.rule.Entry.{Entry}
 use Rattle.grammar.specs.Rules.{noEntry, RuleEntries}
 use Rattle.grammar.proofs.Entries.{formed-kind, formed-a, formed-b}
-use Rattle.records.specs.Kinds.{kindOf}
+use Rattle.records.specs.Kinds.{rowOf, shapeOf}
 use Rattle.meaning.specs.Marks.{meansHere, means, below, mark}
 
 module _ (levels labels : List ℕ) (entries : List Entry) where
@@ -23,7 +23,7 @@ module _ (levels labels : List ℕ) (entries : List Entry) where
 
   -- What the kind of entry i means over marks of its a and b.
   abbrev pub meansOver : ℕ → (a b : ℕ → Bool) → ℕ → Bool
-  meansOver i a b = means levels labels (kindOf (entry i .kind)) (entry i .a) a b
+  meansOver i a b = means levels labels (shapeOf (entry i .kind)) (entry i .a) a b
 
   -- What is known of the entries below k is their marks.
   pub below-mark : (k i : ℕ) → i < k → below levels labels entries k i ≡ mark levels labels entries i
@@ -45,8 +45,8 @@ module _ (levels labels : List ℕ) (entries : List Entry) where
   mark-is i la lb = rw (mark-below i, below-mark i (entry i .a), below-mark i (entry i .b))
 
   -- Kinds 1 and 2 ask nothing of a and b.
-  pub plain : (k l : ℕ) (a b a′ b′ : ℕ → Bool) → 1 ≤ k → k < 3 → means levels labels (kindOf k) l a b ≡ means levels labels (kindOf k) l a′ b′
-  unfolding means meansHere
+  pub plain : (k l : ℕ) (a b a′ b′ : ℕ → Bool) → 1 ≤ k → k < 3 → means levels labels (shapeOf k) l a b ≡ means levels labels (shapeOf k) l a′ b′
+  unfolding rowOf means meansHere
   plain zero l a b a′ b′ m n = absurd (omega arith)
   plain (suc zero) l a b a′ b′ m n = refl
   plain (suc (suc zero)) l a b a′ b′ m n = refl

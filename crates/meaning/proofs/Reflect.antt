@@ -16,9 +16,9 @@ use Rattle.meaning.specs.Tree.{Child, Next, Neighbour, direction}
 use Rattle.meaning.specs.Links.{parent, previous, link}
 use Rattle.records.specs.declared.kind.Local.{Local}
 use Rattle.records.specs.declared.kind.Local.the-variants.{Always as always, HasLabel as hasLabel, Negation as negation, Disjunction as disjunction, Conjunction as conjunction}
-use Rattle.records.specs.declared.kind.Kind.{Kind}
-use Rattle.records.specs.declared.kind.Kind.the-variants.{Nothing as nothing, Here as local, SomeAlong as someAlong, UntilAlong as untilAlong, EveryChild as everyChild}
-use Rattle.records.specs.Kinds.{kindOf}
+use Rattle.records.specs.declared.kind.Shape.{Shape}
+use Rattle.records.specs.declared.kind.Shape.the-variants.{Nothing as nothing, Here as local, SomeAlong as someAlong, UntilAlong as untilAlong, EveryChild as everyChild}
+use Rattle.records.specs.Kinds.{shapeOf, leadsBack}
 use Rattle.meaning.specs.Meaning.{MeansHere, Means, Below, Holds}
 use Rattle.meaning.specs.Marks.{meansHere, means, below, mark, bitAt, wordOf, verdict}
 use Rattle.meaning.proofs.Links.{parent-is, parent-down, previous-is, previous-down}
@@ -36,7 +36,7 @@ previous-finds levels =
 
 -- So each axis is found by its link.
 pub axis-along : (levels : List ℕ) (x : Axis) → Along (link levels x) (length levels) (direction x) (Neighbour levels x)
-unfolding link direction Neighbour
+unfolding link direction leadsBack Neighbour
 axis-along levels child = ahead (parent-finds levels)
 axis-along levels toParent = behind (parent-finds levels)
 axis-along levels next = ahead (previous-finds levels)
@@ -59,7 +59,7 @@ module _ (levels labels : List ℕ) where
     near x t q = ha t (nearer (axis-along levels x) s t l q .0)
 
     -- The test of a kind tells what the kind means, where the tests of a and b do.
-    pub means-told : (k : Kind) → Told (Means levels labels k label A B s) (means levels labels k label a b s)
+    pub means-told : (k : Shape) → Told (Means levels labels k label A B s) (means levels labels k label a b s)
     unfolding Means means
     means-told nothing = fails (λ x. x)
     means-told (local k) = here-told k label (getD labels s 0) (ha s l) (hb s l)
@@ -80,7 +80,7 @@ module _ (levels labels : List ℕ) where
     below-told (suc k) i s l =
         pick-told (eqb i k) s _ _ _ _
         (means-told (getD entries k noEntry .a) _ _ _ _ (below-told k (getD entries k noEntry .a)) (below-told k (getD entries k noEntry .b))
-        s l (kindOf (getD entries k noEntry .kind)))
+        s l (shapeOf (getD entries k noEntry .kind)))
         (below-told k i s l)
 
     -- An entry's mark at an element tells whether the entry holds there.

@@ -17,16 +17,14 @@ use Rattle.records.specs.declared.kind.Axis.{Axis}
 use Rattle.records.specs.declared.kind.Axis.the-variants.{Child as child, Parent as toParent, Next as next, Previous as toPrevious}
 use Rattle.meaning.specs.Tree.{direction}
 use Rattle.meaning.specs.Links.{parent, previous, link}
-use Rattle.records.specs.declared.kind.Kind.{Kind}
-use Rattle.records.specs.declared.kind.Kind.the-variants.{Nothing as nothing, Here as local, SomeAlong as someAlong, UntilAlong as untilAlong, EveryChild as everyChild}
-use Rattle.records.specs.Kinds.{kindOf}
-use Rattle.meaning.specs.Meaning.{isBackward, kindLooksBack}
+use Rattle.records.specs.declared.kind.Shape.{Shape}
+use Rattle.records.specs.declared.kind.Shape.the-variants.{Nothing as nothing, Here as local, SomeAlong as someAlong, UntilAlong as untilAlong, EveryChild as everyChild}
+use Rattle.records.specs.Kinds.{rowOf, shapeOf, leadsBack, shapeLooksBack}
 use Rattle.meaning.specs.Marks.{at, someOf, meansHere, means, mark, bitAt, word, wordOf}
 use Rattle.meaning.specs.OnePass.{LooksBack, wordTo, stepBit, stepWord}
 use Rattle.meaning.proofs.Tests.{until-is}
 use Rattle.meaning.proofs.Reflect.{axis-along}
 use Rattle.meaning.proofs.OneStep.{mark-rule}
-use Rattle.meaning.proofs.LooksBack.{looks-is}
 use Rattle.meaning.proofs.Words.{word-bit, wordOf-bit}
 
 -- The word of an element that is found; 0 where there is none.
@@ -46,10 +44,10 @@ module _ (entries : List Entry) (rule : RuleEntries entries) (back : LooksBack e
   found-bit (some t) i l = wordOf-bit entries levels labels i t l
 
   -- Bit i of the word that an axis leads back to is the mark there.
-  back-bit : (x : Axis) → isBackward (direction x) ≡ true → (s i : ℕ) → i < length entries
+  back-bit : (x : Axis) → leadsBack x ≡ true → (s i : ℕ) → i < length entries
       → bitAt (wordTo x (foundWord W (parent levels s)) (foundWord W (previous levels s))) i
       ≡ someOf (direction x) (length levels) (link levels x) (M i) s
-  unfolding isBackward direction wordTo someOf link
+  unfolding leadsBack direction wordTo someOf link
   back-bit child e s i l = clash e refl
   back-bit toParent e s i l = found-bit (parent levels s) i l
   back-bit next e s i l = clash e refl
@@ -60,10 +58,10 @@ module _ (entries : List Entry) (rule : RuleEntries entries) (back : LooksBack e
     w = word i (λ j. M j s)
 
     -- The step table's bit of a kind that looks back is what the kind means.
-    step-means : (k : Kind) → kindLooksBack k ≡ true → (a < i) × (b < i) → mark levels labels entries i ≡ means levels labels k a (M a) (M b)
+    step-means : (k : Shape) → shapeLooksBack k ≡ true → (a < i) × (b < i) → mark levels labels entries i ≡ means levels labels k a (M a) (M b)
         → stepBit k a b i (getD labels s 0) w (foundWord W (parent levels s)) (foundWord W (previous levels s))
         ≡ means levels labels k a (M a) (M b) s
-    unfolding stepBit means kindLooksBack
+    unfolding stepBit means shapeLooksBack
     step-means nothing e p is = refl
     step-means (local k) e p is = rw (word-bit i a (λ j. M j s) (p .0), word-bit i b (λ j. M j s) (p .1))
     step-means (someAlong x) e p is = back-bit x e s a (omega arith)
@@ -73,9 +71,9 @@ module _ (entries : List Entry) (rule : RuleEntries entries) (back : LooksBack e
     step-means everyChild e p is = clash e refl
 
     -- So it is for kinds 1 and 2, whatever a and b are.
-    step-plain : (k : ℕ) → k < 3 → stepBit (kindOf k) a b i (getD labels s 0) w (foundWord W (parent levels s)) (foundWord W (previous levels s))
-        ≡ means levels labels (kindOf k) a (M a) (M b) s
-    unfolding stepBit means meansHere
+    step-plain : (k : ℕ) → k < 3 → stepBit (shapeOf k) a b i (getD labels s 0) w (foundWord W (parent levels s)) (foundWord W (previous levels s))
+        ≡ means levels labels (shapeOf k) a (M a) (M b) s
+    unfolding rowOf stepBit means meansHere
     step-plain zero l = refl
     step-plain (suc zero) l = refl
     step-plain (suc (suc zero)) l = refl
@@ -89,11 +87,11 @@ module _ (entries : List Entry) (rule : RuleEntries entries) (back : LooksBack e
       let e = getD entries m noEntry in
       let is = mark-rule levels labels entries rule m lm in
       let f = rule .formed m lm in
-      let one : stepBit (kindOf (e .kind)) (e .a) (e .b) m (getD labels s 0) (word m (λ i. M i s)) (foundWord W (parent levels s)) (foundWord W (previous levels s))
-      ≡ means levels labels (kindOf (e .kind)) (e .a) (M (e .a)) (M (e .b)) s =
+      let one : stepBit (shapeOf (e .kind)) (e .a) (e .b) m (getD labels s 0) (word m (λ i. M i s)) (foundWord W (parent levels s)) (foundWord W (previous levels s))
+      ≡ means levels labels (shapeOf (e .kind)) (e .a) (M (e .a)) (M (e .b)) s =
       elim (decLt (e .kind) 3) [
         | yes l ↦ step-plain s m (e .a) (e .b) ls lm (e .kind) l
-        | no l ↦ step-means s m (e .a) (e .b) ls lm (kindOf (e .kind)) (sym (looks-is (e .kind)) ∙ back m lm)
+        | no l ↦ step-means s m (e .a) (e .b) ls lm (shapeOf (e .kind)) (back m lm)
             (formed-a m e f (omega arith), formed-b m e f (omega arith)) is
       ] in rw (step-marks s ls m (omega arith), one, is)
 

@@ -14,9 +14,9 @@ use Rattle.meaning.specs.Tree.{Direction, forward, backward, direction}
 use Rattle.meaning.specs.Links.{link}
 use Rattle.records.specs.declared.kind.Local.{Local}
 use Rattle.records.specs.declared.kind.Local.the-variants.{Always as always, HasLabel as hasLabel, Negation as negation, Disjunction as disjunction, Conjunction as conjunction}
-use Rattle.records.specs.declared.kind.Kind.{Kind}
-use Rattle.records.specs.declared.kind.Kind.the-variants.{Nothing as nothing, Here as local, SomeAlong as someAlong, UntilAlong as untilAlong, EveryChild as everyChild}
-use Rattle.records.specs.Kinds.{kindOf}
+use Rattle.records.specs.declared.kind.Shape.{Shape}
+use Rattle.records.specs.declared.kind.Shape.the-variants.{Nothing as nothing, Here as local, SomeAlong as someAlong, UntilAlong as untilAlong, EveryChild as everyChild}
+use Rattle.records.specs.Kinds.{shapeOf}
 
 -- There is such an element, and p passes at it.
 abbrev pub at : Option ℕ → (ℕ → Bool) → Bool
@@ -56,7 +56,7 @@ meansHere conjunction label own a b = a && b
 
 module _ (levels labels : List ℕ) where
   -- The kinds, as tests.
-  unfoldable pub means : Kind → (label : ℕ) (a b : ℕ → Bool) → ℕ → Bool
+  unfoldable pub means : Shape → (label : ℕ) (a b : ℕ → Bool) → ℕ → Bool
   means nothing label a b s = false
   means (local k) label a b s = meansHere k label (getD labels s 0) (a s) (b s)
   means (someAlong x) label a b s = someOf (direction x) (length levels) (link levels x) a s
@@ -70,7 +70,7 @@ module _ (levels labels : List ℕ) where
     unfoldable pub below : (k i : ℕ) → ℕ → Bool
     below zero i = λ s. false
     below (suc k) i =
-        cond (eqb i k) (means (kindOf (entry k .kind)) (entry k .a) (below k (entry k .a)) (below k (entry k .b))) (below k i)
+        cond (eqb i k) (means (shapeOf (entry k .kind)) (entry k .a) (below k (entry k .a)) (below k (entry k .b))) (below k i)
 
     -- Entry i's mark at element s.
     unfoldable pub mark : (i s : ℕ) → Bool

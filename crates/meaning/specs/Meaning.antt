@@ -5,7 +5,7 @@
 -- Laws: proofs/Reflect.antt (the computing form), proofs/OneStep.antt (what an engine may use). Assumes nothing.
 use Prim.Native.Nat.{ℕ, zero, suc}
 use mathlib.Core.Path.{_≡_}
-use mathlib.Core.Bool.{Bool, true, false, cond}
+use mathlib.Core.Bool.{cond}
 use mathlib.Core.Logic.{_⊎_}
 use mathlib.Core.List.{List, [], _∷_}
 use lib.Dec.{eqb}
@@ -13,25 +13,12 @@ use lib.ListN.{getD}
 use Rattle.records.specs.declared.rule.Entry.{Entry}
 use Rattle.records.specs.declared.kind.Local.{Local}
 use Rattle.records.specs.declared.kind.Local.the-variants.{Always as always, HasLabel as hasLabel, Negation as negation, Disjunction as disjunction, Conjunction as conjunction}
-use Rattle.records.specs.declared.kind.Kind.{Kind}
-use Rattle.records.specs.declared.kind.Kind.the-variants.{Nothing as nothing, Here as local, SomeAlong as someAlong, UntilAlong as untilAlong, EveryChild as everyChild}
-use Rattle.records.specs.Kinds.{kindOf}
+use Rattle.records.specs.declared.kind.Shape.{Shape}
+use Rattle.records.specs.declared.kind.Shape.the-variants.{Nothing as nothing, Here as local, SomeAlong as someAlong, UntilAlong as untilAlong, EveryChild as everyChild}
+use Rattle.records.specs.Kinds.{shapeOf}
 use Rattle.grammar.specs.Rules.{noEntry}
-use Rattle.records.specs.declared.kind.Axis.{Axis}
-use Rattle.records.specs.declared.kind.Axis.the-variants.{Child as child, Parent as parent, Next as next, Previous as previous}
-use Rattle.meaning.specs.Tree.{Neighbour, Direction, forward, backward, direction, Star}
-
--- Whether a kind looks back: what is at an element does, and what goes along an axis that leads back.
-unfoldable pub isBackward : Direction → Bool
-isBackward forward = false
-isBackward backward = true
-
-unfoldable pub kindLooksBack : Kind → Bool
-kindLooksBack nothing = false
-kindLooksBack (local k) = true
-kindLooksBack (someAlong x) = isBackward (direction x)
-kindLooksBack (untilAlong x) = isBackward (direction x)
-kindLooksBack everyChild = false
+use Rattle.records.specs.declared.kind.Axis.the-variants.{Child as child}
+use Rattle.meaning.specs.Tree.{Neighbour, Star}
 
 -- B holds at some t at the end of a way of R from s, which may be s itself, and A holds at every u on the way, t excepted.
 unfoldable pub Until : (R : ℕ → ℕ → Type 0) (A B : ℕ → Type 0) → ℕ → Type 0
@@ -49,7 +36,7 @@ MeansHere conjunction label own A B = A × B
 -- A tree: the levels and the labels of its elements in order of opening.
 module _ (levels labels : List ℕ) where
   -- The kinds at element s; `label` is the label of kind 2, A and B are what entries a and b mean.
-  unfoldable pub Means : Kind → (label : ℕ) (A B : ℕ → Type 0) → ℕ → Type 0
+  unfoldable pub Means : Shape → (label : ℕ) (A B : ℕ → Type 0) → ℕ → Type 0
   Means nothing label A B s = ⊥
   Means (local k) label A B s = MeansHere k label (getD labels s 0) (A s) (B s)
   Means (someAlong x) label A B s = (t : ℕ) × Neighbour levels x s t × A t
@@ -65,7 +52,7 @@ module _ (levels labels : List ℕ) where
     unfoldable pub Below : (k i : ℕ) → ℕ → Type 0
     Below zero i = λ s. ⊥
     Below (suc k) i =
-        cond (eqb i k) (Means (kindOf (entry k .kind)) (entry k .a) (Below k (entry k .a)) (Below k (entry k .b))) (Below k i)
+        cond (eqb i k) (Means (shapeOf (entry k .kind)) (entry k .a) (Below k (entry k .a)) (Below k (entry k .b))) (Below k i)
 
     -- Entry i holds at element s.
     unfoldable pub Holds : (i s : ℕ) → Type 0

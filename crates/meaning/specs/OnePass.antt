@@ -15,9 +15,9 @@ use Rattle.records.specs.Tags.{Tag, opens, closes, tagFault}
 use Rattle.grammar.specs.Rules.{noEntry}
 use Rattle.records.specs.declared.kind.Axis.{Axis}
 use Rattle.records.specs.declared.kind.Axis.the-variants.{Child as child, Parent as parent, Next as next, Previous as previous}
-use Rattle.records.specs.declared.kind.Kind.{Kind}
-use Rattle.records.specs.declared.kind.Kind.the-variants.{Nothing as nothing, Here as local, SomeAlong as someAlong, UntilAlong as untilAlong, EveryChild as everyChild}
-use Rattle.records.specs.Kinds.{kindOf}
+use Rattle.records.specs.declared.kind.Shape.{Shape}
+use Rattle.records.specs.declared.kind.Shape.the-variants.{Nothing as nothing, Here as local, SomeAlong as someAlong, UntilAlong as untilAlong, EveryChild as everyChild}
+use Rattle.records.specs.Kinds.{shapeOf}
 use Rattle.meaning.specs.Marks.{bit, bitAt, meansHere}
 
 -- How many elements are open and have been opened, whether the root is closed, and for each of 64 levels a presence bit, an open
@@ -51,7 +51,7 @@ wordTo next p q = 0
 
 -- Entry i's bit for an element with a label, from the bits of the entries before it (w), the parent's word and the previous
 -- sibling's.
-unfoldable pub stepBit : Kind → (a b i label w parentWord siblingWord : ℕ) → Bool
+unfoldable pub stepBit : Shape → (a b i label w parentWord siblingWord : ℕ) → Bool
 stepBit nothing a b i label w p q = false
 stepBit (local k) a b i label w p q = meansHere k a label (bitAt w a) (bitAt w b)
 stepBit (someAlong x) a b i label w p q = bitAt (wordTo x p q) a
@@ -66,7 +66,7 @@ module _ (entries : List Entry) where
   unfoldable pub stepWord : (label parentWord siblingWord m : ℕ) → ℕ
   stepWord label p q zero = 0
   stepWord label p q (suc m) =
-      bit (stepBit (kindOf (entry m .kind)) (entry m .a) (entry m .b) m label (stepWord label p q m) p q) * 2 ^ m + stepWord label p q m
+      bit (stepBit (shapeOf (entry m .kind)) (entry m .a) (entry m .b) m label (stepWord label p q m) p q) * 2 ^ m + stepWord label p q m
 
   -- The parent's word, from open word d - 1, and the previous sibling's, from last word d: no such word counts as 0.
   abbrev pub parentWord : State → ℕ

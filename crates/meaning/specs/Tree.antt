@@ -6,8 +6,10 @@
 -- Assumes nothing.
 use Prim.Native.Nat.{ℕ, suc, _<_}
 use mathlib.Core.Path.{_≡_}
+use mathlib.Core.Bool.{cond}
 use mathlib.Core.List.{List}
 use lib.ListN.{length, getD}
+use Rattle.records.specs.Kinds.{leadsBack}
 use Rattle.records.specs.declared.kind.Axis.{Axis}
 use Rattle.records.specs.declared.kind.Axis.the-variants.{Child as child, Parent as parent, Next as next, Previous as previous}
 
@@ -43,12 +45,9 @@ Neighbour levels parent = Back (Child levels)
 Neighbour levels next = Next levels
 Neighbour levels previous = Back (Next levels)
 
--- Whether a step along an axis leads on to an element that opens later, or back to one that opened before.
+-- The way in which a step along an axis leads: on to an element that opens later, or back to one that opened before.
 pub data Direction : Type 0 where
   forward backward : Direction
 
 unfoldable pub direction : Axis → Direction
-direction child = forward
-direction parent = backward
-direction next = forward
-direction previous = backward
+direction x = cond (leadsBack x) backward forward

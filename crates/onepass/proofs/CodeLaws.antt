@@ -13,7 +13,7 @@ use Rattle.records.specs.declared.rule.Entry.{Entry}
 use Rattle.records.specs.Answer.{placeOf, countOf}
 use Rattle.records.specs.Rule.{ruleAnswer}
 use Rattle.records.specs.Tables.{entriesOf, entriesRead}
-use Rattle.records.specs.Kinds.{looksBack}
+use Rattle.records.specs.Kinds.{rowOf, leadsBack, shapeLooksBack}
 use Rattle.records.proofs.WalkLaws.{entries-taken-all}
 use Rattle.onepass.specs.Walk.{Walked, Asked, WordsRead}
 use Rattle.onepass.specs.declared.walk.Walk.{Walk}
@@ -121,7 +121,7 @@ walked-word rule s label p q r n w e words z =
 
 -- Every answer of that test is some entries'.
 pub some-entries : (a : Bool) → (es : List Entry) × (a ≡ looksAhead es)
-unfolding looksAhead looksBack
+unfolding looksAhead rowOf shapeLooksBack leadsBack
 some-entries false = ([], refl)
 some-entries true = (record { kind = 6; a = 0; b = 0 } ∷ [], refl)
 

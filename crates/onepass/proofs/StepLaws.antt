@@ -11,7 +11,7 @@ use Rattle.records.specs.declared.rule.Entry.{Entry}
 use Rattle.records.specs.Kinds.{looksBack}
 use Rattle.grammar.specs.Rules.{noEntry}
 use Rattle.meaning.specs.Marks.{bit}
-use Rattle.records.specs.Kinds.{kindOf}
+use Rattle.records.specs.Kinds.{shapeOf}
 use Rattle.meaning.specs.OnePass.{stepBit, stepWord}
 use Rattle.onepass.specs.Step.{looksAhead}
 
@@ -44,6 +44,6 @@ step-small es label p q zero = omega arith
 step-small es label p q (suc m) = omega (
   arith,
   pow-suc 2 m,
-  bit-le (stepBit (kindOf (getD es m noEntry .kind)) (getD es m noEntry .a) (getD es m noEntry .b) m label (stepWord es label p q m) p q) (2 ^ m),
+  bit-le (stepBit (shapeOf (getD es m noEntry .kind)) (getD es m noEntry .a) (getD es m noEntry .b) m label (stepWord es label p q m) p q) (2 ^ m),
   step-small es label p q m,
 )

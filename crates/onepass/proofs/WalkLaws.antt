@@ -9,7 +9,8 @@ use lib.ListN.{length, getD, List·getD-append}
 use lib.Seq.{getD-append-add}
 use Rattle.records.specs.declared.answer.Answer.the-variants.{Refused}
 use Rattle.records.specs.declared.rule.Entry.{Entry}
-use Rattle.records.specs.Kinds.{looksBack}
+use Rattle.records.specs.Kinds.{shapeLooksBack}
+use Rattle.records.specs.declared.kind.Shape.{Shape}
 use Rattle.records.specs.Rule.{entryAt, ruleAnswer}
 use Rattle.records.specs.Tables.{entriesBefore, entriesRead}
 use Rattle.records.proofs.RuleLaws.{RuleMid}
@@ -17,7 +18,7 @@ use Rattle.records.proofs.TableLaws.{entries-length}
 use Rattle.records.proofs.WalkLaws.{entries-more}
 use Rattle.grammar.specs.Rules.{noEntry}
 use Rattle.meaning.specs.Marks.{bit}
-use Rattle.records.specs.Kinds.{kindOf}
+use Rattle.records.specs.Kinds.{shapeOf}
 use Rattle.meaning.specs.OnePass.{stepBit, stepWord}
 use Rattle.onepass.specs.Step.{looksAhead}
 use Rattle.onepass.specs.Walk.{Walked, unreadWalk, Asked, unaskedAhead}
@@ -43,23 +44,23 @@ pub record StepMid (s : List ℕ) (label p q i at : ℕ) (ahead : Bool) (w : ℕ
 
 -- One entry more: its bit is added above the others.
 step-last : (es : List Entry) (e : Entry) (label p q n : ℕ) → length es ≡ n → (on : Bool) (w : ℕ) → w ≡ stepWord es label p q n
-    → on ≡ stepBit (kindOf (e .kind)) (e .a) (e .b) n label w p q → bit on * 2 ^ n + w ≡ stepWord (es ++ (e ∷ [])) label p q (n + 1)
+    → on ≡ stepBit (shapeOf (e .kind)) (e .a) (e .b) n label w p q → bit on * 2 ^ n + w ≡ stepWord (es ++ (e ∷ [])) label p q (n + 1)
 unfolding stepWord
 step-last es e label p q n l on w z f =
     let g : getD (es ++ (e ∷ [])) n noEntry ≡ e = ap (λ (x : ℕ). getD (es ++ (e ∷ [])) x noEntry) (sym l) ∙ last-entry es e in
     let h : stepWord (es ++ (e ∷ [])) label p q n ≡ w = step-prefix es (e ∷ []) label p q n (omega arith) ∙ sym z in
     rw (add-one n, stepWord, g, h, ← f)
 
-pub word-more : (s : List ℕ) (label p q : ℕ) {i at : ℕ} → RuleMid s i at → (on : Bool) (w : ℕ) (e : Entry) → e ≡ entryAt s at
-    → w ≡ stepWord (entriesBefore s i) label p q i → on ≡ stepBit (kindOf (e .kind)) (e .a) (e .b) i label w p q
+pub word-more : (s : List ℕ) (label p q : ℕ) {i at : ℕ} → RuleMid s i at → (on : Bool) (w : ℕ) (e : Entry) (shape : Shape) → e ≡ entryAt s at
+    → shape ≡ shapeOf (e .kind) → w ≡ stepWord (entriesBefore s i) label p q i → on ≡ stepBit shape (e .a) (e .b) i label w p q
     → bit on * 2 ^ i + w ≡ stepWord (entriesBefore s (i + 1)) label p q (i + 1)
-word-more s label p q {i} {at} m on w e k z f =
-    step-last (entriesBefore s i) e label p q i (entries-length s i) on w z f
+word-more s label p q {i} {at} m on w e shape k is z f =
+    step-last (entriesBefore s i) e label p q i (entries-length s i) on w z (f ∙ ap (λ (x : Shape). stepBit x (e .a) (e .b) i label w p q) is)
     ∙ ap (λ (es : List Entry). stepWord es label p q (i + 1)) (sym (entries-more s m ∙ ap (λ (x : Entry). entriesBefore s i ++ (x ∷ [])) (sym k)))
 
-pub ahead-then : (s : List ℕ) {i at : ℕ} → RuleMid s i at → (so back : Bool) (e : Entry) → e ≡ entryAt s at
-    → so ≡ looksAhead (entriesBefore s i) → back ≡ looksBack (e .kind) → (so || not back) ≡ looksAhead (entriesBefore s (i + 1))
-ahead-then s {i} {at} m so back e k z f = rw (entries-more s m, ← k, z, f) (sym (ahead-more (entriesBefore s i) e))
+pub ahead-then : (s : List ℕ) {i at : ℕ} → RuleMid s i at → (so back : Bool) (e : Entry) (shape : Shape) → e ≡ entryAt s at
+    → shape ≡ shapeOf (e .kind) → so ≡ looksAhead (entriesBefore s i) → back ≡ shapeLooksBack shape → (so || not back) ≡ looksAhead (entriesBefore s (i + 1))
+ahead-then s {i} {at} m so back e shape k is z f = rw (entries-more s m, ← k, z, f, is) (sym (ahead-more (entriesBefore s i) e))
 
 -- Where the walk stops.
 pub walk-done : (s : List ℕ) (label p q : ℕ) {i at : ℕ} {ahead : Bool} {w : ℕ} → StepMid s label p q i at ahead w → entriesRead s ≡ entriesBefore s i

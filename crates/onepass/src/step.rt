@@ -1,13 +1,11 @@
 // The step table: an entry's bit from the element's label, its parent's word and its previous sibling's.
 ghost use mathlib.Core.Path.{_≡_};
-ghost use Rattle.records.specs.Kinds.{kindOf};
 ghost use Rattle.meaning.specs.Marks.{meansHere};
 ghost use Rattle.meaning.specs.OnePass.{wordTo, stepBit};
 use bits::bit_at;
 use records::kind::Axis;
-use records::kind::Kind;
+use records::kind::Shape;
 use records::kind::Local;
-use records::kind::kind_of;
 
 // Kinds 1 to 5 at an element with a label, from its bits.
 fn local_bit(k: Local, label: usize, own: usize, a: bool, b: bool) -> bool
@@ -36,20 +34,8 @@ fn word_to(x: Axis, p: u64, q: u64) -> u64
 
 // Entry i's bit, from the bits of the entries before it (w), the parent's word (p) and the previous
 // sibling's (q).
-fn shape_bit(kind: Kind, a: usize, b: usize, i: usize, label: usize, w: u64, p: u64, q: u64) -> bool
-    ensures { λ r. ⌜ r ≡ stepBit kind a b i label w p q ⌝ }
-{
-    match kind {
-        Kind::Here(k) => local_bit(k, a, label, bit_at(w, a), bit_at(w, b)),
-        Kind::SomeAlong(x) => bit_at(word_to(x, p, q), a),
-        Kind::UntilAlong(x) => bit_at(w, b) | (bit_at(w, a) & bit_at(word_to(x, p, q), i)),
-        Kind::EveryChild => false,
-        Kind::Nothing => false,
-    }
-}
-
 pub(crate) fn step_bit(
-    kind: usize,
+    shape: Shape,
     a: usize,
     b: usize,
     i: usize,
@@ -58,7 +44,13 @@ pub(crate) fn step_bit(
     p: u64,
     q: u64,
 ) -> bool
-    ensures { λ r. ⌜ r ≡ stepBit (kindOf kind) a b i label w p q ⌝ }
+    ensures { λ r. ⌜ r ≡ stepBit shape a b i label w p q ⌝ }
 {
-    shape_bit(kind_of(kind), a, b, i, label, w, p, q)
+    match shape {
+        Shape::Here(k) => local_bit(k, a, label, bit_at(w, a), bit_at(w, b)),
+        Shape::SomeAlong(x) => bit_at(word_to(x, p, q), a),
+        Shape::UntilAlong(x) => bit_at(w, b) | (bit_at(w, a) & bit_at(word_to(x, p, q), i)),
+        Shape::EveryChild => false,
+        Shape::Nothing => false,
+    }
 }

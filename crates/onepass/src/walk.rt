@@ -50,8 +50,9 @@ pub(crate) fn walk_rule(rule: &[u8], label: usize, p: u64, q: u64) -> Walk
             break Answer::Refused(taken.fault, at);
         }
         let e = taken.entry;
-        let back = looks_back(e.kind);
-        let on = step_bit(e.kind, e.a, e.b, n, label, w, p, q);
+        let shape = taken.shape;
+        let back = looks_back(shape);
+        let on = step_bit(shape, e.a, e.b, n, label, w, p, q);
         ahead = ahead | !back;
         w = add_bit(w, n, on);
         at = taken.next;
@@ -102,8 +103,8 @@ pub(crate) fn ask_rule(rule: &[u8]) -> Ahead
         if taken.fault != 0 {
             break Answer::Refused(taken.fault, at);
         }
-        let e = taken.entry;
-        let back = looks_back(e.kind);
+        let shape = taken.shape;
+        let back = looks_back(shape);
         ahead = ahead | !back;
         at = taken.next;
         n = n + 1;

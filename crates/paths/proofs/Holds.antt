@@ -10,7 +10,7 @@ use lib.ListN.{length, length-append}
 use lib.Seq.{getD-append-seam}
 use Rattle.records.specs.declared.rule.Entry.{Entry}
 use Rattle.grammar.specs.Rules.{noEntry}
-use Rattle.records.specs.Kinds.{kindOf}
+use Rattle.records.specs.Kinds.{shapeOf}
 use Rattle.meaning.specs.Meaning.{Means, Below, Holds}
 use Rattle.meaning.proofs.Behind.{below-holds, below-kept, holds-kept}
 use Rattle.paths.specs.Translation.{put, entry}
@@ -27,7 +27,7 @@ module _ (levels labels : List ℕ) where
 
   -- The entry put last holds what its kind means of what is known below it.
   pub put-below : (es : List Entry) (e : Entry) → Holds levels labels (put es e) (length es)
-      ≡ Means levels labels (kindOf (e .kind)) (e .a) (Below levels labels es (length es) (e .a)) (Below levels labels es (length es) (e .b))
+      ≡ Means levels labels (shapeOf (e .kind)) (e .a) (Below levels labels es (length es) (e .a)) (Below levels labels es (length es) (e .b))
   unfolding put Holds Below
   put-below es e =
       let l : length es ≤ length es = omega arith in
@@ -37,6 +37,6 @@ module _ (levels labels : List ℕ) where
   -- It holds what its kind means of its arguments, where these are entries before it.
   pub put-holds : (es : List Entry) (k a b : ℕ) → a < length es → b < length es
       → Holds levels labels (put es (entry k a b)) (length es)
-      ≡ Means levels labels (kindOf k) a (Holds levels labels es a) (Holds levels labels es b)
+      ≡ Means levels labels (shapeOf k) a (Holds levels labels es a) (Holds levels labels es b)
   put-holds es k a b la lb =
       put-below es (entry k a b) ∙ rw (below-holds levels labels es (length es) a la, below-holds levels labels es (length es) b lb)

@@ -9,7 +9,7 @@ use mathlib.Core.Path.{_≡_, refl, ap, subst}
 use native.Mathlib.Decide.{decLt}
 use mathlib.Core.Bool.{true, false}
 use mathlib.Core.Logic.{⊎-elim}
-use Rattle.records.specs.Kinds.{table, noKind, rowOf, looksBack}
+use Rattle.records.specs.Kinds.{table, noKind, rowOf}
 
 -- P holds at n numbers from lo on: what a range of a match, or a whole table, is shown by.
 abbrev pub Each : (ℕ → Type 0) → ℕ → ℕ → Type 0
@@ -27,16 +27,6 @@ pub row-none : (k : ℕ) → 14 < k → rowOf k ≡ noKind
 unfolding rowOf
 row-none k h = List·getD-eq-default table noKind {n = k} (omega arith)
 
--- Kinds 1 to 5 look back.
-pub back-low : (k : ℕ) → 1 ≤ k → k ≤ 5 → looksBack k ≡ true
-unfolding looksBack
-back-low k l h = rw (le-leb 1 k l, le-leb k 5 h)
-
--- Past 5, what is not 7, 9, 11 or 13 looks ahead; and so does 0.
-pub ahead-high : (k : ℕ) → 5 < k → (k ≡ 7 → ⊥) → (k ≡ 9 → ⊥) → (k ≡ 11 → ⊥) → (k ≡ 13 → ⊥) → looksBack k ≡ false
-unfolding looksBack
-ahead-high k h a b c d = rw (le-leb 1 k (omega arith), lt-leb k 5 h, ne-eqb k 7 a, ne-eqb k 9 b, ne-eqb k 11 c, ne-eqb k 13 d)
-
 -- What is none of the kinds has no row.
 pub row-other : (k : ℕ) → ((j : ℕ) → 1 ≤ j → j < 15 → k ≡ j → ⊥) → rowOf k ≡ noKind
 unfolding rowOf
@@ -44,14 +34,4 @@ row-other k n = elim (decLt 14 k) [ yes h ↦ row-none k h | no h ↦ go k refl 
   where
     go : (m : ℕ) → k ≡ m → m ≤ 14 → rowOf k ≡ noKind
     go zero e l = ap rowOf e
-    go (suc m) e l = absurd (n (suc m) (omega arith) (omega arith) e)
-
--- What is none of these looks ahead.
-pub back-other : (k : ℕ) → ((j : ℕ) → 1 ≤ j → j < 6 → k ≡ j → ⊥) → (k ≡ 7 → ⊥) → (k ≡ 9 → ⊥) → (k ≡ 11 → ⊥) → (k ≡ 13 → ⊥)
-    → looksBack k ≡ false
-unfolding looksBack
-back-other k n a b c d = elim (decLt 5 k) [ yes h ↦ ahead-high k h a b c d | no h ↦ go k refl (omega arith) ]
-  where
-    go : (m : ℕ) → k ≡ m → m ≤ 5 → looksBack k ≡ false
-    go zero e l = ap looksBack e
     go (suc m) e l = absurd (n (suc m) (omega arith) (omega arith) e)

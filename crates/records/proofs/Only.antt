@@ -5,7 +5,7 @@ use Prim.Native.Nat.{ℕ}
 use mathlib.Core.Path.{_≡_, sym, _∙_}
 use mathlib.Core.Bool.{Bool, false}
 use mathlib.Core.List.{List}
-use Rattle.records.specs.Kinds.{rowOf, looksBack}
+use Rattle.records.specs.Kinds.{rowOf, leadsBack, shapeLooksBack}
 use Rattle.records.specs.Tags.{opens, closes, tagFault}
 use Rattle.records.specs.Rule.{ruleAnswer}
 use Rattle.records.specs.Report.{reportAnswer}
@@ -14,7 +14,9 @@ use Rattle.records.specs.Reply.{ruleReply, reportReply}
 use Rattle.records.specs.declared.answer.Answer.{Answer}
 use Rattle.records.specs.declared.export.RuleReply.{RuleReply}
 use Rattle.records.specs.declared.export.ReportReply.{ReportReply}
+use Rattle.records.specs.declared.kind.Axis.{Axis}
 use Rattle.records.specs.declared.kind.Row.{Row}
+use Rattle.records.specs.declared.kind.Shape.{Shape}
 
 -- Two things that equal a third are equal.
 pub only : {A : Type 0} {x y z : A} → x ≡ z → y ≡ z → x ≡ y
@@ -24,9 +26,12 @@ only p q = p ∙ sym q
 pub row-of-only : (kind : ℕ) {r r′ : Row} → r ≡ rowOf kind → r′ ≡ rowOf kind → r ≡ r′
 row-of-only kind p q = only p q
 
--- Whether a kind looks back.
-pub looks-back-only : (kind : ℕ) {r r′ : Bool} → r ≡ looksBack kind → r′ ≡ looksBack kind → r ≡ r′
-looks-back-only kind p q = only p q
+-- Whether an axis leads back, and whether an entry looks back.
+pub leads-back-only : (x : Axis) {r r′ : Bool} → r ≡ leadsBack x → r′ ≡ leadsBack x → r ≡ r′
+leads-back-only x p q = only p q
+
+pub looks-back-only : (shape : Shape) {r r′ : Bool} → r ≡ shapeLooksBack shape → r′ ≡ shapeLooksBack shape → r ≡ r′
+looks-back-only shape p q = only p q
 
 -- The number that an opening gets.
 pub open-fault-only : (depth elements : ℕ) (rootClosed : Bool) (label : ℕ) {r r′ : ℕ}

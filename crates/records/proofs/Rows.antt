@@ -6,18 +6,21 @@ use native.Mathlib.Omega.{arith}
 use mathlib.Core.Path.{_≡_, refl}
 use mathlib.Core.List.{List, [], _∷_}
 use lib.ListN.{length, getD}
-use Rattle.records.specs.Kinds.{row, noKind, table, rowOf}
-use Rattle.records.specs.declared.kind.Holds.the-variants.{Nothing, Label, Entries}
+use Rattle.records.specs.Kinds.{row, noKind, table, rowOf, shapeOf, localNumbers, numbersOf}
+use Rattle.records.specs.declared.kind.Local.the-variants.{Always, HasLabel}
+use Rattle.records.specs.declared.kind.Shape.{Shape}
+use Rattle.records.specs.declared.kind.Shape.the-variants.{Here}
+use Rattle.records.specs.declared.kind.Numbers.the-variants.{Label, Entries}
 use Rattle.records.specs.declared.kind.Row.{Row}
 
 -- The row of a kind: none for 0 and from 15 on, no body for 1, a label for 2, one entry number or two from 3 to 14.
 pub data Sort : ℕ → Row → Type 0 where
   no-zero : Sort 0 noKind
   no-more : (kind : ℕ) → 15 ≤ kind → Sort kind noKind
-  bare : Sort 1 (row 2 0 Nothing)
-  labelled : Sort 2 (row 4 1 Label)
-  one : (kind : ℕ) → 3 ≤ kind → kind ≤ 14 → Sort kind (row 4 1 Entries)
-  two : (kind : ℕ) → 3 ≤ kind → kind ≤ 14 → Sort kind (row 6 2 Entries)
+  bare : Sort 1 (row 2 0 (Here Always))
+  labelled : Sort 2 (row 4 1 (Here HasLabel))
+  one : (kind : ℕ) {shape : Shape} → 3 ≤ kind → kind ≤ 14 → numbersOf shape ≡ Entries → Sort kind (row 4 1 shape)
+  two : (kind : ℕ) {shape : Shape} → 3 ≤ kind → kind ≤ 14 → numbersOf shape ≡ Entries → Sort kind (row 6 2 shape)
 
 -- The rows in a list, from kind n on, are of their sorts.
 data Sorts : ℕ → List Row → Type 0 where
@@ -31,15 +34,15 @@ sorts-at {n} (more r rs) (suc k) = rw (add-suc n k, ← suc-add n k) (sorts-at r
 
 -- Each kind's row is of its sort.
 pub row-sort : (kind : ℕ) → Sort kind (rowOf kind)
-unfolding rowOf
+unfolding rowOf numbersOf localNumbers
 row-sort kind = rw zero-add at (sorts-at rows kind) where
   rows : Sorts 0 table
   rows =
       more no-zero (more bare (more labelled
-      (more (one 3 (omega arith) (omega arith)) (more (two 4 (omega arith) (omega arith)) (more (two 5 (omega arith) (omega arith))
-      (more (one 6 (omega arith) (omega arith)) (more (one 7 (omega arith) (omega arith)) (more (one 8 (omega arith) (omega arith))
-      (more (one 9 (omega arith) (omega arith)) (more (two 10 (omega arith) (omega arith)) (more (two 11 (omega arith) (omega arith))
-      (more (two 12 (omega arith) (omega arith)) (more (two 13 (omega arith) (omega arith)) (more (one 14 (omega arith) (omega arith))
+      (more (one 3 (omega arith) (omega arith) refl) (more (two 4 (omega arith) (omega arith) refl) (more (two 5 (omega arith) (omega arith) refl)
+      (more (one 6 (omega arith) (omega arith) refl) (more (one 7 (omega arith) (omega arith) refl) (more (one 8 (omega arith) (omega arith) refl)
+      (more (one 9 (omega arith) (omega arith) refl) (more (two 10 (omega arith) (omega arith) refl) (more (two 11 (omega arith) (omega arith) refl)
+      (more (two 12 (omega arith) (omega arith) refl) (more (two 13 (omega arith) (omega arith) refl) (more (one 14 (omega arith) (omega arith) refl)
       (end 15 (omega arith))))))))))))))))
 
 -- ---- what the readers need of a row
@@ -52,15 +55,15 @@ known-range kind n = go (row-sort kind) n where
   go (no-more k l) m = absurd (m refl)
   go bare m = (omega arith, omega arith)
   go labelled m = (omega arith, omega arith)
-  go (one k l h) m = (omega arith, omega arith)
-  go (two k l h) m = (omega arith, omega arith)
+  go (one k l h e) m = (omega arith, omega arith)
+  go (two k l h e) m = (omega arith, omega arith)
 
 -- A row's sizes: two bytes for the kind and two for each argument, of which there are two at most, and one at most where they are
 -- no entry numbers.
 pub record Measured (r : Row) : Type 0 where
   pub long : r .length ≡ 2 + 2 * r .arguments
   pub few : r .arguments ≤ 2
-  pub fewer : (r .holds ≡ Entries → ⊥) → r .arguments ≤ 1
+  pub fewer : (numbersOf (r .shape) ≡ Entries → ⊥) → r .arguments ≤ 1
 
 -- The row of a known kind has these sizes.
 pub row-measured : (kind : ℕ) → (rowOf kind .length ≡ 0 → ⊥) → Measured (rowOf kind)
@@ -70,21 +73,21 @@ row-measured kind n = go (row-sort kind) n where
   go (no-more k l) m = absurd (m refl)
   go bare m = record { long = refl; few = omega arith; fewer = λ f. omega arith }
   go labelled m = record { long = refl; few = omega arith; fewer = λ f. omega arith }
-  go (one k l h) m = record { long = refl; few = omega arith; fewer = λ f. omega arith }
-  go (two k l h) m = record { long = refl; few = omega arith; fewer = λ f. absurd (f refl) }
+  go (one k l h e) m = record { long = refl; few = omega arith; fewer = λ f. omega arith }
+  go (two k l h e) m = record { long = refl; few = omega arith; fewer = λ f. absurd (f e) }
 
 -- Kind 2 has a label.
-pub kind-label : rowOf 2 .holds ≡ Label
-unfolding rowOf
+pub kind-label : numbersOf (shapeOf 2) ≡ Label
+unfolding rowOf numbersOf localNumbers
 kind-label = refl
 
 -- Kinds 3 to 14 have entry numbers.
-pub kind-entries : (kind : ℕ) → 3 ≤ kind → kind ≤ 14 → rowOf kind .holds ≡ Entries
+pub kind-entries : (kind : ℕ) → 3 ≤ kind → kind ≤ 14 → numbersOf (shapeOf kind) ≡ Entries
 kind-entries kind l h = go (row-sort kind) l h where
-  go : {k : ℕ} {r : Row} → Sort k r → 3 ≤ k → k ≤ 14 → r .holds ≡ Entries
+  go : {k : ℕ} {r : Row} → Sort k r → 3 ≤ k → k ≤ 14 → numbersOf (r .shape) ≡ Entries
   go no-zero a b = absurd (omega arith)
   go (no-more k c) a b = absurd (omega arith)
   go bare a b = absurd (omega arith)
   go labelled a b = absurd (omega arith)
-  go (one k c d) a b = refl
-  go (two k c d) a b = refl
+  go (one k c d e) a b = e
+  go (two k c d e) a b = e

@@ -1,22 +1,23 @@
--- The table of kinds of rule records: length and body of each, and which of them look back. Document 01, "Records".
+-- The table of kinds of rule records: the length and the body of each, what it means as a shape, and which of them look back. Document
+-- 01, "Records". What the shapes mean on a tree is said in the crate meaning.
 -- Laws: proofs/KindLaws.antt, proofs/Rows.antt. Assumes nothing.
 use Prim.Native.Nat.{ℕ}
-use mathlib.Core.Bool.{Bool, true, false, _||_, _&&_}
+use mathlib.Core.Bool.{Bool, true, false}
 use mathlib.Core.List.{List, [], _∷_}
-use lib.Dec.{leb, eqb}
 use lib.ListN.{getD}
-use Rattle.records.specs.declared.kind.Holds.{Holds}
-use Rattle.records.specs.declared.kind.Holds.the-variants.{Nothing, Label, Entries}
-use Rattle.records.specs.declared.kind.Row.{Row}
 use Rattle.records.specs.declared.kind.Axis.{Axis}
 use Rattle.records.specs.declared.kind.Axis.the-variants.{Child, Parent, Next, Previous}
+use Rattle.records.specs.declared.kind.Local.{Local}
 use Rattle.records.specs.declared.kind.Local.the-variants.{Always, HasLabel, Negation, Disjunction, Conjunction}
-use Rattle.records.specs.declared.kind.Kind.{Kind}
-use Rattle.records.specs.declared.kind.Kind.the-variants.{Nothing as NoKind, Here, SomeAlong, UntilAlong, EveryChild}
+use Rattle.records.specs.declared.kind.Shape.{Shape}
+use Rattle.records.specs.declared.kind.Shape.the-variants.{Nothing, Here, SomeAlong, UntilAlong, EveryChild}
+use Rattle.records.specs.declared.kind.Numbers.{Numbers}
+use Rattle.records.specs.declared.kind.Numbers.the-variants.{Nothing as NoNumbers, Label, Entries}
+use Rattle.records.specs.declared.kind.Row.{Row}
 
--- A row: the record's length, how many two-byte numbers its body has, and what these are.
-abbrev pub row : ℕ → ℕ → Holds → Row
-row length arguments holds = record { length = length; arguments = arguments; holds = holds }
+-- A row: the record's length, how many two-byte numbers its body has, and its shape.
+abbrev pub row : ℕ → ℕ → Shape → Row
+row length arguments shape = record { length = length; arguments = arguments; shape = shape }
 
 -- What stands for a number that is no kind: length 0, which no record has.
 abbrev pub noKind : Row
@@ -26,20 +27,34 @@ noKind = row 0 0 Nothing
 abbrev pub table : List Row
 table =
     noKind
-    ∷ row 2 0 Nothing
-    ∷ row 4 1 Label
-    ∷ row 4 1 Entries
-    ∷ row 6 2 Entries
-    ∷ row 6 2 Entries
-    ∷ row 4 1 Entries
-    ∷ row 4 1 Entries
-    ∷ row 4 1 Entries
-    ∷ row 4 1 Entries
-    ∷ row 6 2 Entries
-    ∷ row 6 2 Entries
-    ∷ row 6 2 Entries
-    ∷ row 6 2 Entries
-    ∷ row 4 1 Entries
+    -- 1: everywhere
+    ∷ row 2 0 (Here Always)
+    -- 2: where the element has the label
+    ∷ row 4 1 (Here HasLabel)
+    -- 3: where a does not hold
+    ∷ row 4 1 (Here Negation)
+    -- 4: where a or b holds
+    ∷ row 6 2 (Here Disjunction)
+    -- 5: where a and b hold
+    ∷ row 6 2 (Here Conjunction)
+    -- 6: where a holds at one child or more
+    ∷ row 4 1 (SomeAlong Child)
+    -- 7: where there is a parent, and a holds at it
+    ∷ row 4 1 (SomeAlong Parent)
+    -- 8: the same of the next sibling
+    ∷ row 4 1 (SomeAlong Next)
+    -- 9: and of the previous one
+    ∷ row 4 1 (SomeAlong Previous)
+    -- 10: where some way down, of no step or more, ends at an element with b, and everything on it before that has a
+    ∷ row 6 2 (UntilAlong Child)
+    -- 11: the same of a way up
+    ∷ row 6 2 (UntilAlong Parent)
+    -- 12: of a way to later siblings
+    ∷ row 6 2 (UntilAlong Next)
+    -- 13: and of one to earlier siblings
+    ∷ row 6 2 (UntilAlong Previous)
+    -- 14: where there are children, and a holds at all of them
+    ∷ row 4 1 EveryChild
     ∷ []
 
 -- The row of a kind.
@@ -50,47 +65,43 @@ rowOf kind = getD table kind noKind
 abbrev pub ruleLength : ℕ → ℕ
 ruleLength kind = rowOf kind .length
 
--- Kinds 1 to 5, 7, 9, 11 and 13 look back; every other kind looks ahead.
-unfoldable pub looksBack : ℕ → Bool
-looksBack kind = leb 1 kind && leb kind 5 || eqb kind 7 || eqb kind 9 || eqb kind 11 || eqb kind 13
-
--- The table of kinds, 0 to 14 in order, 0 being no kind.
-abbrev pub kinds : List Kind
-kinds =
-    NoKind
-    -- 1: always
-    ∷ Here Always
-    -- 2: s has that label
-    ∷ Here HasLabel
-    -- 3: a does not hold at s
-    ∷ Here Negation
-    -- 4: a or b holds at s
-    ∷ Here Disjunction
-    -- 5: a and b hold at s
-    ∷ Here Conjunction
-    -- 6: a holds at some child
-    ∷ SomeAlong Child
-    -- 7: s has a parent and a holds there
-    ∷ SomeAlong Parent
-    -- 8: s has a next sibling and a holds there
-    ∷ SomeAlong Next
-    -- 9: s has a previous sibling and a holds there
-    ∷ SomeAlong Previous
-    -- 10: b holds at s or a descendant t, and a at s and every element on the way down, t itself excepted
-    ∷ UntilAlong Child
-    -- 11: b holds at s or an ancestor t, and a at s and every element on the way up, t itself excepted
-    ∷ UntilAlong Parent
-    -- 12: as 10 along s and its later siblings
-    ∷ UntilAlong Next
-    -- 13: as 11 along s and its earlier siblings
-    ∷ UntilAlong Previous
-    -- 14: s has at least one child, and a holds at every child
-    ∷ EveryChild
-    ∷ []
-
-abbrev pub kindOf : ℕ → Kind
-kindOf number = getD kinds number NoKind
+-- The shape of a kind.
+abbrev pub shapeOf : ℕ → Shape
+shapeOf kind = rowOf kind .shape
 
 -- The axes in the order of kinds 6 to 9 and 10 to 13.
 unfoldable pub axisOf : ℕ → Axis
 axisOf n = getD (Child ∷ Parent ∷ Next ∷ []) n Previous
+
+-- What the numbers of a body are: a label in kind 2, entry numbers in kinds 3 to 14.
+unfoldable pub localNumbers : Local → Numbers
+localNumbers Always = NoNumbers
+localNumbers HasLabel = Label
+localNumbers Negation = Entries
+localNumbers Disjunction = Entries
+localNumbers Conjunction = Entries
+
+unfoldable pub numbersOf : Shape → Numbers
+numbersOf Nothing = NoNumbers
+numbersOf (Here asked) = localNumbers asked
+numbersOf (SomeAlong x) = Entries
+numbersOf (UntilAlong x) = Entries
+numbersOf EveryChild = Entries
+
+-- A step along an axis leads back, to an element that opened before, or on to one that opens later.
+unfoldable pub leadsBack : Axis → Bool
+leadsBack Child = false
+leadsBack Parent = true
+leadsBack Next = false
+leadsBack Previous = true
+
+-- What is asked of the element alone looks back, and what goes along an axis that leads back; so do kinds 1 to 5, 7, 9, 11 and 13.
+unfoldable pub shapeLooksBack : Shape → Bool
+shapeLooksBack Nothing = false
+shapeLooksBack (Here asked) = true
+shapeLooksBack (SomeAlong x) = leadsBack x
+shapeLooksBack (UntilAlong x) = leadsBack x
+shapeLooksBack EveryChild = false
+
+abbrev pub looksBack : ℕ → Bool
+looksBack kind = shapeLooksBack (shapeOf kind)

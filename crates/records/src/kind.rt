@@ -1,122 +1,7 @@
-// The kinds of rule records.
+// The kinds of rule records: one match gives a record's length, how many numbers its body has, and what
+// its entry means.
 ghost use mathlib.Core.Path.{_≡_};
-ghost use Rattle.records.specs.Kinds.{rowOf, looksBack, axisOf, kindOf};
-
-// What the numbers in a record's body are.
-pub enum Holds {
-    Nothing,
-    Label,
-    Entries,
-}
-
-// The row of a kind: the record's length, how many numbers its body has, and what they are.
-// Length 0 stands for a number that is no kind: no record is that short.
-pub struct Row {
-    pub length: usize,
-    pub arguments: usize,
-    pub holds: Holds,
-}
-
-// The row of a kind.
-pub fn row_of(kind: usize) -> Row
-    ensures { λ r. ⌜ r ≡ rowOf kind ⌝ }
-{
-    match kind {
-        1 => Row {
-            length: 2,
-            arguments: 0,
-            holds: Holds::Nothing,
-        },
-        2 => Row {
-            length: 4,
-            arguments: 1,
-            holds: Holds::Label,
-        },
-        3 => Row {
-            length: 4,
-            arguments: 1,
-            holds: Holds::Entries,
-        },
-        4 => Row {
-            length: 6,
-            arguments: 2,
-            holds: Holds::Entries,
-        },
-        5 => Row {
-            length: 6,
-            arguments: 2,
-            holds: Holds::Entries,
-        },
-        6 => Row {
-            length: 4,
-            arguments: 1,
-            holds: Holds::Entries,
-        },
-        7 => Row {
-            length: 4,
-            arguments: 1,
-            holds: Holds::Entries,
-        },
-        8 => Row {
-            length: 4,
-            arguments: 1,
-            holds: Holds::Entries,
-        },
-        9 => Row {
-            length: 4,
-            arguments: 1,
-            holds: Holds::Entries,
-        },
-        10 => Row {
-            length: 6,
-            arguments: 2,
-            holds: Holds::Entries,
-        },
-        11 => Row {
-            length: 6,
-            arguments: 2,
-            holds: Holds::Entries,
-        },
-        12 => Row {
-            length: 6,
-            arguments: 2,
-            holds: Holds::Entries,
-        },
-        13 => Row {
-            length: 6,
-            arguments: 2,
-            holds: Holds::Entries,
-        },
-        14 => Row {
-            length: 4,
-            arguments: 1,
-            holds: Holds::Entries,
-        },
-        _ => Row {
-            length: 0,
-            arguments: 0,
-            holds: Holds::Nothing,
-        },
-    }
-}
-
-// Whether a kind looks back: what it says of an element is settled when the element opens.
-pub fn looks_back(kind: usize) -> bool
-    ensures { λ r. ⌜ r ≡ looksBack kind ⌝ }
-{
-    match kind {
-        1 => true,
-        2 => true,
-        3 => true,
-        4 => true,
-        5 => true,
-        7 => true,
-        9 => true,
-        11 => true,
-        13 => true,
-        _ => false,
-    }
-}
+ghost use Rattle.records.specs.Kinds.{axisOf, rowOf, localNumbers, numbersOf, leadsBack, shapeLooksBack};
 
 // The axes of the tree.
 pub enum Axis {
@@ -126,7 +11,7 @@ pub enum Axis {
     Previous,
 }
 
-// What kinds 1 to 5 ask at an element itself.
+// What is asked of an element alone.
 pub enum Local {
     Always,
     HasLabel,
@@ -135,13 +20,21 @@ pub enum Local {
     Conjunction,
 }
 
-// The meaning of a kind, by its shape.
-pub enum Kind {
+// What an entry means, by its shape: a question at the element; at a neighbour along an axis; at the end of
+// a way along an axis; at every child. A number that is no kind means nothing.
+pub enum Shape {
     Nothing,
     Here(Local),
     SomeAlong(Axis),
     UntilAlong(Axis),
     EveryChild,
+}
+
+// The row of a kind. Length 0 stands for a number that is no kind: no record is that short.
+pub struct Row {
+    pub length: usize,
+    pub arguments: usize,
+    pub shape: Shape,
 }
 
 // The axes in the order of kinds 6 to 9 and 10 to 13.
@@ -156,19 +49,112 @@ fn axis_of(n: usize) -> Axis
     }
 }
 
-// The meaning of a kind.
-pub fn kind_of(kind: usize) -> Kind
-    ensures { λ r. ⌜ r ≡ kindOf kind ⌝ }
+// The row of a kind.
+pub fn row_of(kind: usize) -> Row
+    ensures { λ r. ⌜ r ≡ rowOf kind ⌝ }
 {
     match kind {
-        1 => Kind::Here(Local::Always),
-        2 => Kind::Here(Local::HasLabel),
-        3 => Kind::Here(Local::Negation),
-        4 => Kind::Here(Local::Disjunction),
-        5 => Kind::Here(Local::Conjunction),
-        6..=9 => Kind::SomeAlong(axis_of(kind - 6)),
-        10..=13 => Kind::UntilAlong(axis_of(kind - 10)),
-        14 => Kind::EveryChild,
-        _ => Kind::Nothing,
+        1 => Row {
+            length: 2,
+            arguments: 0,
+            shape: Shape::Here(Local::Always),
+        },
+        2 => Row {
+            length: 4,
+            arguments: 1,
+            shape: Shape::Here(Local::HasLabel),
+        },
+        3 => Row {
+            length: 4,
+            arguments: 1,
+            shape: Shape::Here(Local::Negation),
+        },
+        4 => Row {
+            length: 6,
+            arguments: 2,
+            shape: Shape::Here(Local::Disjunction),
+        },
+        5 => Row {
+            length: 6,
+            arguments: 2,
+            shape: Shape::Here(Local::Conjunction),
+        },
+        6..=9 => Row {
+            length: 4,
+            arguments: 1,
+            shape: Shape::SomeAlong(axis_of(kind - 6)),
+        },
+        10..=13 => Row {
+            length: 6,
+            arguments: 2,
+            shape: Shape::UntilAlong(axis_of(kind - 10)),
+        },
+        14 => Row {
+            length: 4,
+            arguments: 1,
+            shape: Shape::EveryChild,
+        },
+        _ => Row {
+            length: 0,
+            arguments: 0,
+            shape: Shape::Nothing,
+        },
+    }
+}
+
+// What the numbers in a record's body are.
+pub enum Numbers {
+    Nothing,
+    Label,
+    Entries,
+}
+
+fn local_numbers(asked: Local) -> Numbers
+    ensures { λ r. ⌜ r ≡ localNumbers asked ⌝ }
+{
+    match asked {
+        Local::Always => Numbers::Nothing,
+        Local::HasLabel => Numbers::Label,
+        Local::Negation => Numbers::Entries,
+        Local::Disjunction => Numbers::Entries,
+        Local::Conjunction => Numbers::Entries,
+    }
+}
+
+// What they are, by what the entry means.
+pub(crate) fn numbers_of(shape: Shape) -> Numbers
+    ensures { λ r. ⌜ r ≡ numbersOf shape ⌝ }
+{
+    match shape {
+        Shape::Nothing => Numbers::Nothing,
+        Shape::Here(asked) => local_numbers(asked),
+        Shape::SomeAlong(_) => Numbers::Entries,
+        Shape::UntilAlong(_) => Numbers::Entries,
+        Shape::EveryChild => Numbers::Entries,
+    }
+}
+
+// Whether a step along an axis leads back, to an element that opened before.
+pub fn leads_back(x: Axis) -> bool
+    ensures { λ r. ⌜ r ≡ leadsBack x ⌝ }
+{
+    match x {
+        Axis::Child => false,
+        Axis::Parent => true,
+        Axis::Next => false,
+        Axis::Previous => true,
+    }
+}
+
+// Whether an entry looks back: what it says of an element is settled when the element opens.
+pub fn looks_back(shape: Shape) -> bool
+    ensures { λ r. ⌜ r ≡ shapeLooksBack shape ⌝ }
+{
+    match shape {
+        Shape::Nothing => false,
+        Shape::Here(_) => true,
+        Shape::SomeAlong(x) => leads_back(x),
+        Shape::UntilAlong(x) => leads_back(x),
+        Shape::EveryChild => false,
     }
 }

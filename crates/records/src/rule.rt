@@ -4,12 +4,15 @@ ghost use mathlib.Core.Bool.{true, cond};
 ghost use Prim.Native.Nat.{_+_, _*_, _≤_, _<_};
 ghost use lib.ListN.{length};
 ghost use Rattle.records.specs.Bytes.{numberAt};
+ghost use Rattle.records.specs.Kinds.{numbersOf};
 ghost use Rattle.records.specs.Rule.{entryOf, misdirected, faultyAt, fineAt, takenAt, ruleAnswer};
 use crate::answer::Answer;
 use crate::frame::Frame;
 use crate::frame::frame_of;
-use crate::kind::Holds;
+use crate::kind::Numbers;
 use crate::kind::Row;
+use crate::kind::Shape;
+use crate::kind::numbers_of;
 use crate::kind::row_of;
 use crate::number::number_at;
 
@@ -42,21 +45,22 @@ pub(crate) fn entry_of(row: Row, s: &[u8], at: usize) -> Entry
 }
 
 // Whether an entry's numbers are not what they may be.
-fn misdirects(holds: Holds, arguments: usize, own: usize, e: Entry) -> bool
-    ensures { λ r. ⌜ r ≡ misdirected holds arguments own e ⌝ }
+fn misdirects(numbers: Numbers, arguments: usize, own: usize, e: Entry) -> bool
+    ensures { λ r. ⌜ r ≡ misdirected numbers arguments own e ⌝ }
 {
-    match holds {
-        Holds::Nothing => false,
-        Holds::Label => (e.a < 1) | (999 < e.a),
-        Holds::Entries => (own <= e.a) | ((2 <= arguments) & (own <= e.b)),
+    match numbers {
+        Numbers::Nothing => false,
+        Numbers::Label => (e.a < 1) | (999 < e.a),
+        Numbers::Entries => (own <= e.a) | ((2 <= arguments) & (own <= e.b)),
     }
 }
 
-// What the record at an offset is taken for: its number, 0 where it has no fault; its entry and where
-// the next record begins, where it has none; else no entry and the same offset.
+// What the record at an offset is taken for: its number, 0 where it has no fault; its entry, what that
+// means, and where the next record begins, where it has none; else no entry and the same offset.
 pub struct Taken {
     pub fault: u32,
     pub entry: Entry,
+    pub shape: Shape,
     pub next: usize,
 }
 
@@ -72,6 +76,7 @@ fn faulty(number: u32, at: usize) -> Taken
     Taken {
         fault: number,
         entry: none,
+        shape: Shape::Nothing,
         next: at,
     }
 }
@@ -79,15 +84,16 @@ fn faulty(number: u32, at: usize) -> Taken
 // A whole record of this row, whose entry is e.
 fn whole_entry(row: Row, own: usize, e: Entry, at: usize, next: usize) -> Taken
     requires { ⌜ (e .kind < 65536) × (e .a < 65536) × (e .b < 65536) ⌝ }
-    ensures { λ r. ⌜ (r ≡ cond (misdirected (row .holds) (row .arguments) own e) (faultyAt 3 at) (fineAt e next)) × (r .entry .kind < 65536) × (r .entry .a < 65536) × (r .entry .b < 65536) ⌝ }
+    ensures { λ r. ⌜ (r ≡ cond (misdirected (numbersOf (row .shape)) (row .arguments) own e) (faultyAt 3 at) (fineAt e (row .shape) next)) × (r .entry .kind < 65536) × (r .entry .a < 65536) × (r .entry .b < 65536) ⌝ }
 {
-    let holds = row.holds;
-    if misdirects(holds, row.arguments, own, e) {
+    let shape = row.shape;
+    if misdirects(numbers_of(shape), row.arguments, own, e) {
         faulty(3, at)
     } else {
         Taken {
             fault: 0,
             entry: e,
+            shape: shape,
             next: next,
         }
     }

@@ -1,9 +1,10 @@
 -- `back_pass`: the elements passed have their marks, and a column leads to one of them. Assumes nothing.
 use Prim.Native.Nat.{ℕ, _≤_, _<_, _-_}
 use lib.ListN.{length, getD}
+use Rattle.meaning.specs.Tree.{backward}
 use Rattle.evaluate.specs.Links.{leads}
 use Rattle.evaluate.specs.Pass.{Passed, bitsOf}
-use Rattle.evaluate.specs.Steps.{backMark}
+use Rattle.evaluate.specs.Steps.{alongMark}
 use Rattle.evaluate.proofs.PassLaws.{before-only, ascent-start, ascent-turn, ascent-end}
 use Rattle.evaluate.proofs.StepLaws.{back-turn}
 use borrow.Author.Needs.{needs}
@@ -13,7 +14,7 @@ use Rattle.evaluate.proofs.back.back_pass.Tie as tie
 
 abbrev Inv-loop : tie.InvT-loop
 Inv-loop until a b i f marks₀ s₀ marks s =
-    (s ≤ length f) × Passed (length f) i (before-only (backMark until (length f) (leads f) (bitsOf marks₀ a) (bitsOf marks₀ b)) s) marks₀ marks
+    (s ≤ length f) × Passed (length f) i (before-only (alongMark until backward (length f) (leads f) (bitsOf marks₀ a) (bitsOf marks₀ b)) s) marks₀ marks
 
 abbrev μ-loop : tie.MeasureT-loop
 μ-loop until a b i f marks₀ s₀ marks s = length f - s

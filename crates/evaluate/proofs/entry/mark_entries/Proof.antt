@@ -31,6 +31,9 @@ shared-slice-read-wide c = omega arith
 wide-requires : tie.Need-wide-requires Inv-loop μ-loop
 wide-requires c κs = search needs
 
+row-of-requires : tie.Need-row-of-requires Inv-loop μ-loop
+row-of-requires c κs = search needs
+
 mul-wide-2 : tie.Need-mul-wide-2 Inv-loop μ-loop
 mul-wide-2 c = omega arith
 
@@ -51,28 +54,30 @@ wide-requires-3 c κs = search needs
 
 mark-entry-requires : tie.Need-mark-entry-requires Inv-loop μ-loop
 mark-entry-requires c κs =
-    let l = c .before .before .before .before .before .before .before .before .loop in
-    let p = c .before .before .before .before .before .before .before .before .before .before .before .before .before .before .before .before .before .args in
-    let q = c .before .before .before .before .before .before .before .before .before .before .before .before .before .before .before .before .before .pre in
-    let t = c .before .before .before .before .before .before .before .loop-test .taken in
+    let l = c .before .before .before .before .before .before .before .before .before .loop in
+    let p = c .before .before .before .before .before .before .before .before .before .before .before .before .before .before .before .before .before .before .args in
+    let q = c .before .before .before .before .before .before .before .before .before .before .before .before .before .before .before .before .before .before .pre in
+    let t = c .before .before .before .before .before .before .before .before .loop-test .taken in
+    let row = rw (c .before .before .before .before .before .before .wide .ensures) at (c .before .before .before .before .before .row-of .ensures) in
     let h = table-few (p .entries) (p .kinds .now) (p .firsts .now) (p .seconds .now) (q .0) in
     let f = table-fits (p .entries) (p .kinds .now) (p .firsts .now) (p .seconds .now) (q .0) (l .i) t in
-    rw (c .before .wide3 .ensures, c .before .before .before .wide2 .ensures, c .before .before .before .before .before .wide .ensures)
+    rw (c .before .wide3 .ensures, c .before .before .before .wide2 .ensures, row)
     (f, (words-room (p .levels .now) (p .labels .now) _ (q .1 .1 .1 .1 .1) (omega arith) (l .inv .1), (q .1 .1 .0, (q .1 .1 .1 .0, q .1 .1 .1 .1 .0))))
 
 add-i : tie.Need-add-i Inv-loop μ-loop
-add-i c = omega (arith, c .before .before .before .before .before .before .before .before .before .before .loop-test .taken, c .before .before .before .before .before .before .before .before .before .before .before .before .before .before .before .before .before .before .before .before .fits)
+add-i c = omega (arith, c .before .before .before .before .before .before .before .before .before .before .before .loop-test .taken, c .before .before .before .before .before .before .before .before .before .before .before .before .before .before .before .before .before .before .before .before .before .fits)
 
 loop-less : tie.Need-loop-less Inv-loop μ-loop
-loop-less c = omega (arith, c .before .before .before .before .before .before .before .before .before .before .loop-test .taken)
+loop-less c = omega (arith, c .before .before .before .before .before .before .before .before .before .before .before .loop-test .taken)
 
 loop-again : tie.Need-loop-again Inv-loop μ-loop
 loop-again c =
-    let l = c .before .before .before .before .before .before .before .before .before .before .before .loop in
-    let p = c .before .before .before .before .before .before .before .before .before .before .before .before .before .before .before .before .before .before .before .before .args in
-    let q = c .before .before .before .before .before .before .before .before .before .before .before .before .before .before .before .before .before .before .before .before .pre in
-    let t = c .before .before .before .before .before .before .before .before .before .before .loop-test .taken in
-    let e = rw (c .before .before .before .before .wide3 .ensures, c .before .before .before .before .before .before .wide2 .ensures, c .before .before .before .before .before .before .before .before .wide .ensures) at (c .before .before .mark-entry .ensures) in
+    let l = c .before .before .before .before .before .before .before .before .before .before .before .before .loop in
+    let p = c .before .before .before .before .before .before .before .before .before .before .before .before .before .before .before .before .before .before .before .before .before .args in
+    let q = c .before .before .before .before .before .before .before .before .before .before .before .before .before .before .before .before .before .before .before .before .before .pre in
+    let t = c .before .before .before .before .before .before .before .before .before .before .before .loop-test .taken in
+    let row = rw (c .before .before .before .before .before .before .before .before .before .wide .ensures) at (c .before .before .before .before .before .before .before .before .row-of .ensures) in
+    let e = rw (c .before .before .before .before .wide3 .ensures, c .before .before .before .before .before .before .wide2 .ensures, row) at (c .before .before .mark-entry .ensures) in
     (omega arith, table-turn (p .entries) (p .kinds .now) (p .firsts .now) (p .seconds .now) (q .0) (l .i) t (p .levels .now) (p .labels .now) (l .inv .1) e)
 
 same-length : tie.Need-same-length Inv-loop μ-loop
@@ -94,6 +99,7 @@ mark-entries-spec =
     mul-wide
     shared-slice-read-wide
     wide-requires
+    row-of-requires
     mul-wide-2
     shared-slice-read-wide-2
     wide-requires-2

@@ -57,19 +57,19 @@ looks-back-requires : tie.Need-looks-back-requires Inv-loop μ-loop
 looks-back-requires c κs = search needs
 
 add-n : tie.Need-add-n Inv-loop μ-loop
-add-n c = omega (arith, c .before .before .before .before .before .before .loop .inv .few)
+add-n c = omega (arith, c .before .before .before .before .before .loop .inv .few)
 
 loop-less : tie.Need-loop-less Inv-loop μ-loop
-loop-less c = omega (arith, next (c .before .before), onward (c .before .before))
+loop-less c = omega (arith, next (c .before), onward (c .before))
 
 loop-again : tie.Need-loop-again Inv-loop μ-loop
 loop-again c =
-    let m = c .before .before .before .before .before .before .loop .inv in
-    let e = taken-fine _ _ _ _ (c .before .before .before .before .take-entry .ensures .0) (c .before .before .if4 .left) .0 in
+    let m = c .before .before .before .before .before .loop .inv in
+    let e = taken-fine _ _ _ _ (c .before .before .before .take-entry .ensures .0) (c .before .if4 .left) in
     record {
-      mid = rw (onward (c .before .before)) (rule-turn _ (m .mid) (c .before .before .before .before .before .if3 .left) (fine (c .before .before)));
-      few = omega (arith, rule-sound _ _ _ (fine (c .before .before)) .0);
-      ahead-so = ahead-then _ (m .mid) _ _ _ e (m .ahead-so) (c .looks-back .ensures);
+      mid = rw (onward (c .before)) (rule-turn _ (m .mid) (c .before .before .before .before .if3 .left) (fine (c .before)));
+      few = omega (arith, rule-sound _ _ _ (fine (c .before)) .0);
+      ahead-so = ahead-then _ (m .mid) _ _ _ _ (e .0) (e .2) (m .ahead-so) (c .looks-back .ensures);
     }
 
 returns-3 : tie.Need-returns-3 Inv-loop μ-loop

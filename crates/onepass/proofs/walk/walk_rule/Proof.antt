@@ -74,12 +74,12 @@ loop-less c = omega (arith, next (c .before .before .before .before), onward (c 
 loop-again : tie.Need-loop-again Inv-loop μ-loop
 loop-again c =
     let m = c .before .before .before .before .before .before .before .before .loop .inv in
-    let e = taken-fine _ _ _ _ (c .before .before .before .before .before .before .take-entry .ensures .0) (c .before .before .before .before .if4 .left) .0 in
+    let e = taken-fine _ _ _ _ (c .before .before .before .before .before .before .take-entry .ensures .0) (c .before .before .before .before .if4 .left) in
     record {
       mid = rw (onward (c .before .before .before .before)) (rule-turn _ (m .mid) (c .before .before .before .before .before .before .before .if3 .left) (fine (c .before .before .before .before)));
       few = omega (arith, rule-sound _ _ _ (fine (c .before .before .before .before)) .0);
-      ahead-so = ahead-then _ (m .mid) _ _ _ e (m .ahead-so) (c .before .before .looks-back .ensures);
-      word-so = c .add-bit .ensures ∙ word-more _ _ _ _ (m .mid) _ _ _ e (m .word-so) (c .before .step-bit .ensures);
+      ahead-so = ahead-then _ (m .mid) _ _ _ _ (e .0) (e .2) (m .ahead-so) (c .before .before .looks-back .ensures);
+      word-so = c .add-bit .ensures ∙ word-more _ _ _ _ (m .mid) _ _ _ _ (e .0) (e .2) (m .word-so) (c .before .step-bit .ensures);
     }
 
 returns-3 : tie.Need-returns-3 Inv-loop μ-loop

@@ -1,65 +1,63 @@
--- `looks_back` goes by the number of the kind, one arm each: the compiler makes a table of it, where ranges leave a chain of tests.
--- Assumes nothing.
-use native.Mathlib.Omega.{arith}
-use Prim.Native.Nat.{ℕ}
-use mathlib.Core.Path.{_≡_, ap, sym}
-use Rattle.records.specs.Kinds.{looksBack}
-use Rattle.records.proofs.KindLaws.{each, back-other}
+-- `looks_back`: one arm for each shape. Assumes nothing.
+use Rattle.records.specs.Kinds.{shapeLooksBack}
+use borrow.Author.Needs.{needs}
 use Rattle.records.proofs.kind.looks_back.Statement.{statement}
 use Rattle.records.proofs.kind.looks_back.Tie as tie
 
+enum-told : tie.Need-enum-told
+enum-told c = search needs
+
+enum-told-2 : tie.Need-enum-told-2
+enum-told-2 c = search needs
+
+enum-known-shape : tie.Need-enum-known-shape
+enum-known-shape c = search needs
+
+leads-back-requires : tie.Need-leads-back-requires
+leads-back-requires c κs = search needs
+
+enum-known-shape-2 : tie.Need-enum-known-shape-2
+enum-known-shape-2 c = search needs
+
+leads-back-requires-2 : tie.Need-leads-back-requires-2
+leads-back-requires-2 c κs = search needs
+
+enum-told-3 : tie.Need-enum-told-3
+enum-told-3 c = search needs
+
 returns : tie.Need-returns
-unfolding looksBack
-returns c = sym (ap looksBack (c .match .keys1))
+unfolding shapeLooksBack
+returns c = rw (c .enum-told .given .1)
 
 returns-2 : tie.Need-returns-2
-unfolding looksBack
-returns-2 c = sym (ap looksBack (c .match .keys2))
+unfolding shapeLooksBack
+returns-2 c = rw (c .enum-told2 .given .1)
 
 returns-3 : tie.Need-returns-3
-unfolding looksBack
-returns-3 c = sym (ap looksBack (c .match .keys3))
+unfolding shapeLooksBack
+returns-3 c = rw (c .leads-back .ensures, c .before .before .shape .given .1)
 
 returns-4 : tie.Need-returns-4
-unfolding looksBack
-returns-4 c = sym (ap looksBack (c .match .keys4))
+unfolding shapeLooksBack
+returns-4 c = rw (c .leads-back2 .ensures, c .before .before .shape2 .given .1)
 
 returns-5 : tie.Need-returns-5
-unfolding looksBack
-returns-5 c = sym (ap looksBack (c .match .keys5))
-
-returns-6 : tie.Need-returns-6
-unfolding looksBack
-returns-6 c = sym (ap looksBack (c .match .keys6))
-
-returns-7 : tie.Need-returns-7
-unfolding looksBack
-returns-7 c = sym (ap looksBack (c .match .keys7))
-
-returns-8 : tie.Need-returns-8
-unfolding looksBack
-returns-8 c = sym (ap looksBack (c .match .keys8))
-
-returns-9 : tie.Need-returns-9
-unfolding looksBack
-returns-9 c = sym (ap looksBack (c .match .keys9))
-
-returns-10 : tie.Need-returns-10
-returns-10 c =
-    let r = c .match .rest in
-    sym (back-other _ (each (λ j. c .before .args .kind ≡ j → ⊥) 1 5 (r .0 .0 .0 .0 .0 .0 .0 .0 .1, (r .0 .0 .0 .0 .0 .0 .0 .1, (r .0 .0 .0 .0 .0 .0 .1, (r .0 .0 .0 .0 .0 .1, (r .0 .0 .0 .0 .1, tt)))))) (r .0 .0 .0 .1) (r .0 .0 .1) (r .0 .1) (r .1))
+unfolding shapeLooksBack
+returns-5 c = rw (c .enum-told3 .given .1)
 
 pub looks-back-spec : {M : Type 1} → statement M
 looks-back-spec =
     tie.close
     (tie.spec
+    enum-told
+    enum-told-2
+    enum-known-shape
+    leads-back-requires
+    enum-known-shape-2
+    leads-back-requires-2
+    enum-told-3
     returns
     returns-2
     returns-3
     returns-4
-    returns-5
-    returns-6
-    returns-7
-    returns-8
-    returns-9
-    returns-10)
+    returns-5)

@@ -1,0 +1,55 @@
+-- `local_numbers`: one arm for each question. Assumes nothing.
+use Rattle.records.specs.Kinds.{localNumbers}
+use borrow.Author.Needs.{needs}
+use Rattle.records.proofs.kind.local_numbers.Statement.{statement}
+use Rattle.records.proofs.kind.local_numbers.Tie as tie
+
+enum-told : tie.Need-enum-told
+enum-told c = search needs
+
+enum-told-2 : tie.Need-enum-told-2
+enum-told-2 c = search needs
+
+enum-told-3 : tie.Need-enum-told-3
+enum-told-3 c = search needs
+
+enum-told-4 : tie.Need-enum-told-4
+enum-told-4 c = search needs
+
+enum-told-5 : tie.Need-enum-told-5
+enum-told-5 c = search needs
+
+returns : tie.Need-returns
+unfolding localNumbers
+returns c = rw (c .enum-told .given .1)
+
+returns-2 : tie.Need-returns-2
+unfolding localNumbers
+returns-2 c = rw (c .enum-told2 .given .1)
+
+returns-3 : tie.Need-returns-3
+unfolding localNumbers
+returns-3 c = rw (c .enum-told3 .given .1)
+
+returns-4 : tie.Need-returns-4
+unfolding localNumbers
+returns-4 c = rw (c .enum-told4 .given .1)
+
+returns-5 : tie.Need-returns-5
+unfolding localNumbers
+returns-5 c = rw (c .enum-told5 .given .1)
+
+pub local-numbers-spec : {M : Type 1} → statement M
+local-numbers-spec =
+    tie.close
+    (tie.spec
+    enum-told
+    enum-told-2
+    enum-told-3
+    enum-told-4
+    enum-told-5
+    returns
+    returns-2
+    returns-3
+    returns-4
+    returns-5)
