@@ -14,6 +14,7 @@ use lib.ListN.{length, getD, take, drop}
 use lib.Seq.{ext-getD, take-at, take-suc}
 use Rattle.records.specs.declared.rule.Entry.{Entry}
 use Rattle.records.specs.Tables.{over}
+use Rattle.records.proofs.Rows.{numbers-are}
 use Rattle.records.proofs.TableLaws.{over-is, over-length, over-at, over-past}
 use Rattle.grammar.specs.Legal.{LegalLevels}
 use Rattle.grammar.specs.Rules.{noEntry, RuleEntries}
@@ -236,7 +237,8 @@ module _ (n : ℕ) (kinds firsts seconds : List ℕ) (rule : RuleEntries (tableO
 
     -- The numbers in its columns are below i, where they are entry numbers.
     pub table-fits : numbersOf (shapeOf (getD kinds i 0)) ≡ Entries → (getD firsts i 0 < i) × (getD seconds i 0 < i)
-    table-fits = formed-entries i (entryIn kinds firsts seconds i) (rw (table-at kinds firsts seconds n i l) at (rule .formed i within))
+    table-fits h =
+        formed-entries i (entryIn kinds firsts seconds i) (rw (table-at kinds firsts seconds n i l) at (rule .formed i within)) (numbers-are (getD kinds i 0) ∙ h)
 
     -- One entry more.
     pub table-turn : (levels labels : List ℕ) {before ws after : List ℕ}

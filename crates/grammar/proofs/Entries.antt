@@ -12,7 +12,7 @@ use lib.Seq.{getD-at}
 use borrow.Author.Tests.{lt-leb}
 use Rattle.records.specs.Answer.{countOf}
 use Rattle.records.specs.Frame.{kindAt, startOf}
-use Rattle.records.specs.Kinds.{rowOf, ruleLength, numbersOf, shapeOf}
+use Rattle.records.specs.Kinds.{rowOf, ruleLength}
 use Rattle.records.specs.Rule.{entryOf, entryAt, ruleAnswer, ruleFaults}
 use Rattle.records.specs.Tables.{entriesBefore, entriesOf}
 use Rattle.records.specs.declared.answer.Answer.{Answer}
@@ -33,14 +33,16 @@ module _ (own : ℕ) (e : Entry) (formed : WellFormed own e) where
   formed-kind = known-range (e .kind) (formed .known)
 
   -- Where its numbers are entry numbers, they are below its own; 0 stands for a second that it has not.
-  pub formed-entries : numbersOf (shapeOf (e .kind)) ≡ Entries → (e .a < own) × (e .b < own)
+  pub formed-entries : rowOf (e .kind) .numbers ≡ Entries → (e .a < own) × (e .b < own)
   formed-entries h =
       let n : own ≤ e .a → ⊥ = λ o. formed .directed (bad-a h o) in
-      let a : e .a < own = omega arith in
-      (a, elim (decLt (rowOf (e .kind) .arguments) 2) [
-        | yes f ↦ omega (arith, formed .no-b f, a)
-        | no t ↦ let m : own ≤ e .b → ⊥ = λ o. formed .directed (bad-b h (omega arith) o) in omega arith
-      ])
+      let a : e .a < own = omega arith in (
+        a,
+        elim (decLt (rowOf (e .kind) .arguments) 2) [
+          | yes f ↦ omega (arith, formed .no-b f, a)
+          | no t ↦ let m : own ≤ e .b → ⊥ = λ o. formed .directed (bad-b h (omega arith) o) in omega arith
+        ],
+      )
 
   -- So it is of kinds 3 to 14.
   pub formed-a : 3 ≤ e .kind → e .a < own
@@ -52,7 +54,7 @@ module _ (own : ℕ) (e : Entry) (formed : WellFormed own e) where
   -- Its label is in 1..999, where it has one.
   pub formed-label : e .kind ≡ 2 → (1 ≤ e .a) × (e .a ≤ 999)
   formed-label k =
-      let h = ap (λ (x : ℕ). numbersOf (shapeOf x)) k ∙ kind-label in
+      let h = ap (λ (x : ℕ). rowOf x .numbers) k ∙ kind-label in
       let low : e .a < 1 → ⊥ = λ o. formed .directed (bad-label h (inl o)) in
       let high : 999 < e .a → ⊥ = λ o. formed .directed (bad-label h (inr o)) in (omega arith, omega arith)
 

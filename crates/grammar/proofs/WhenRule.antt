@@ -10,7 +10,7 @@ use lib.Dec.{leb}
 use lib.ListN.{length}
 use Rattle.records.specs.First.{first}
 use Rattle.records.specs.Frame.{frameOf, kindAt, broken, startOf}
-use Rattle.records.specs.Kinds.{rowOf, ruleLength, numbersOf, shapeOf}
+use Rattle.records.specs.Kinds.{rowOf, ruleLength}
 use Rattle.records.specs.Rule.{entryAt, misdirected, ruleFault, ruleStops, ruleEnd, ruleAnswer, ruleFaults}
 use Rattle.records.specs.declared.answer.Answer.{Answer}
 use Rattle.records.specs.declared.answer.Answer.the-variants.{Accepted, Refused}
@@ -28,7 +28,7 @@ use Rattle.grammar.proofs.Tells.{Told, holds, fails, told-iff, or-told,
 -- ---- the fault of one record
 
 module _ (row : Row) (own : ℕ) (e : Entry) where
-  misdirected-told-at : (h : Numbers) → numbersOf (row .shape) ≡ h → Told (Misdirected row own e) (misdirected h (row .arguments) own e)
+  misdirected-told-at : (h : Numbers) → row .numbers ≡ h → Told (Misdirected row own e) (misdirected h (row .arguments) own e)
   unfolding misdirected
   misdirected-told-at Nothing q = fails never where
     never : Misdirected row own e → ⊥
@@ -52,14 +52,14 @@ module _ (row : Row) (own : ℕ) (e : Entry) where
         back (bad-b l t o) = inr (t, o)
 
   -- The test of row 3 passes exactly where an entry is misdirected.
-  pub misdirected-told : Told (Misdirected row own e) (misdirected (numbersOf (row .shape)) (row .arguments) own e)
-  misdirected-told = misdirected-told-at (numbersOf (row .shape)) refl
+  pub misdirected-told : Told (Misdirected row own e) (misdirected (row .numbers) (row .arguments) own e)
+  misdirected-told = misdirected-told-at (row .numbers) refl
 
 module _ (s : List ℕ) (own at : ℕ) where
   broken-at : Told (Faulty ruleLength s at) (broken (frameOf s at (rowOf (kindAt s at) .length)))
   broken-at = broken-told ruleLength s at
 
-  misdirected-at : Told (MisdirectedAt s own at) (misdirected (numbersOf (shapeOf (kindAt s at))) (rowOf (kindAt s at) .arguments) own (entryAt s at))
+  misdirected-at : Told (MisdirectedAt s own at) (misdirected (rowOf (kindAt s at) .numbers) (rowOf (kindAt s at) .arguments) own (entryAt s at))
   misdirected-at = misdirected-told (rowOf (kindAt s at)) own (entryAt s at)
 
   distinct : Distinct 4 2 3
@@ -101,7 +101,7 @@ module _ (s : List ℕ) (own at : ℕ) where
   unfolding ruleFault
   fault-numbers k e n =
       chain-numbers 4 2 3 (leb 64 own) (broken (frameOf s at (rowOf (kindAt s at) .length)))
-      (misdirected (numbersOf (shapeOf (kindAt s at))) (rowOf (kindAt s at) .arguments) own (entryAt s at)) k e n
+      (misdirected (rowOf (kindAt s at) .numbers) (rowOf (kindAt s at) .arguments) own (entryAt s at)) k e n
 
 -- ---- the rule's answer
 

@@ -7,7 +7,7 @@ use mathlib.Core.List.{List}
 use lib.ListN.{length}
 use Rattle.records.specs.Bytes.{numberAt}
 use Rattle.records.specs.Frame.{kindAt, startOf}
-use Rattle.records.specs.Kinds.{rowOf, numbersOf}
+use Rattle.records.specs.Kinds.{rowOf}
 use Rattle.records.specs.Report.{reportLength, tagAt, tagsBefore, reportFault}
 use Rattle.records.specs.Rule.{entryAt}
 use Rattle.records.specs.Tags.{Tag, opens, closes, depth, opened}
@@ -34,9 +34,9 @@ Outside label = (label < 1) ⊎ (999 < label)
 
 -- Row 3: an entry of this row has an entry number that is not below its own, or a label outside 1..999.
 pub data Misdirected (row : Row) (own : ℕ) (e : Entry) : Type 0 where
-  bad-label : numbersOf (row .shape) ≡ Label → Outside (e .a) → Misdirected row own e
-  bad-a : numbersOf (row .shape) ≡ Entries → own ≤ e .a → Misdirected row own e
-  bad-b : numbersOf (row .shape) ≡ Entries → 2 ≤ row .arguments → own ≤ e .b → Misdirected row own e
+  bad-label : row .numbers ≡ Label → Outside (e .a) → Misdirected row own e
+  bad-a : row .numbers ≡ Entries → own ≤ e .a → Misdirected row own e
+  bad-b : row .numbers ≡ Entries → 2 ≤ row .arguments → own ≤ e .b → Misdirected row own e
 
 -- Row 3 at a record, as the record of entry `own`: the entry that it holds is misdirected.
 abbrev pub MisdirectedAt : List ℕ → ℕ → ℕ → Type 0

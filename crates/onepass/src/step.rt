@@ -4,8 +4,8 @@ ghost use Rattle.meaning.specs.Marks.{meansHere};
 ghost use Rattle.meaning.specs.OnePass.{wordTo, stepBit};
 use bits::bit_at;
 use records::kind::Axis;
-use records::kind::Shape;
 use records::kind::Local;
+use records::kind::Shape;
 
 // Kinds 1 to 5 at an element with a label, from its bits.
 fn local_bit(k: Local, label: usize, own: usize, a: bool, b: bool) -> bool

@@ -6,6 +6,7 @@ use crate::step::step_bit;
 use crate::word::add_bit;
 use records::answer::Answer;
 use records::kind::looks_back;
+use records::kind::row_of;
 use records::rule::take_entry;
 
 // What a walk gives: the rule's answer; of the entries read, whether one looks ahead, and the word.
@@ -50,7 +51,8 @@ pub(crate) fn walk_rule(rule: &[u8], label: usize, p: u64, q: u64) -> Walk
             break Answer::Refused(taken.fault, at);
         }
         let e = taken.entry;
-        let shape = taken.shape;
+        let row = row_of(e.kind);
+        let shape = row.shape;
         let back = looks_back(shape);
         let on = step_bit(shape, e.a, e.b, n, label, w, p, q);
         ahead = ahead | !back;
@@ -103,7 +105,8 @@ pub(crate) fn ask_rule(rule: &[u8]) -> Ahead
         if taken.fault != 0 {
             break Answer::Refused(taken.fault, at);
         }
-        let shape = taken.shape;
+        let row = row_of(taken.entry.kind);
+        let shape = row.shape;
         let back = looks_back(shape);
         ahead = ahead | !back;
         at = taken.next;

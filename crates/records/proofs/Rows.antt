@@ -7,9 +7,10 @@ use mathlib.Core.Path.{_≡_, refl}
 use mathlib.Core.List.{List, [], _∷_}
 use lib.ListN.{length, getD}
 use Rattle.records.specs.Kinds.{row, noKind, table, rowOf, shapeOf, localNumbers, numbersOf}
-use Rattle.records.specs.declared.kind.Local.the-variants.{Always, HasLabel}
+use Rattle.records.specs.declared.kind.Axis.the-variants.{Child, Parent, Next, Previous}
+use Rattle.records.specs.declared.kind.Local.the-variants.{Always, HasLabel, Negation, Disjunction, Conjunction}
 use Rattle.records.specs.declared.kind.Shape.{Shape}
-use Rattle.records.specs.declared.kind.Shape.the-variants.{Here}
+use Rattle.records.specs.declared.kind.Shape.the-variants.{Here, SomeAlong, UntilAlong, EveryChild}
 use Rattle.records.specs.declared.kind.Numbers.the-variants.{Label, Entries}
 use Rattle.records.specs.declared.kind.Row.{Row}
 
@@ -19,8 +20,8 @@ pub data Sort : ℕ → Row → Type 0 where
   no-more : (kind : ℕ) → 15 ≤ kind → Sort kind noKind
   bare : Sort 1 (row 2 0 (Here Always))
   labelled : Sort 2 (row 4 1 (Here HasLabel))
-  one : (kind : ℕ) {shape : Shape} → 3 ≤ kind → kind ≤ 14 → numbersOf shape ≡ Entries → Sort kind (row 4 1 shape)
-  two : (kind : ℕ) {shape : Shape} → 3 ≤ kind → kind ≤ 14 → numbersOf shape ≡ Entries → Sort kind (row 6 2 shape)
+  one : (kind : ℕ) (shape : Shape) → 3 ≤ kind → kind ≤ 14 → numbersOf shape ≡ Entries → Sort kind (row 4 1 shape)
+  two : (kind : ℕ) (shape : Shape) → 3 ≤ kind → kind ≤ 14 → numbersOf shape ≡ Entries → Sort kind (row 6 2 shape)
 
 -- The rows in a list, from kind n on, are of their sorts.
 data Sorts : ℕ → List Row → Type 0 where
@@ -39,10 +40,10 @@ row-sort kind = rw zero-add at (sorts-at rows kind) where
   rows : Sorts 0 table
   rows =
       more no-zero (more bare (more labelled
-      (more (one 3 (omega arith) (omega arith) refl) (more (two 4 (omega arith) (omega arith) refl) (more (two 5 (omega arith) (omega arith) refl)
-      (more (one 6 (omega arith) (omega arith) refl) (more (one 7 (omega arith) (omega arith) refl) (more (one 8 (omega arith) (omega arith) refl)
-      (more (one 9 (omega arith) (omega arith) refl) (more (two 10 (omega arith) (omega arith) refl) (more (two 11 (omega arith) (omega arith) refl)
-      (more (two 12 (omega arith) (omega arith) refl) (more (two 13 (omega arith) (omega arith) refl) (more (one 14 (omega arith) (omega arith) refl)
+      (more (one 3 (Here Negation) (omega arith) (omega arith) refl) (more (two 4 (Here Disjunction) (omega arith) (omega arith) refl) (more (two 5 (Here Conjunction) (omega arith) (omega arith) refl)
+      (more (one 6 (SomeAlong Child) (omega arith) (omega arith) refl) (more (one 7 (SomeAlong Parent) (omega arith) (omega arith) refl) (more (one 8 (SomeAlong Next) (omega arith) (omega arith) refl)
+      (more (one 9 (SomeAlong Previous) (omega arith) (omega arith) refl) (more (two 10 (UntilAlong Child) (omega arith) (omega arith) refl) (more (two 11 (UntilAlong Parent) (omega arith) (omega arith) refl)
+      (more (two 12 (UntilAlong Next) (omega arith) (omega arith) refl) (more (two 13 (UntilAlong Previous) (omega arith) (omega arith) refl) (more (one 14 EveryChild (omega arith) (omega arith) refl)
       (end 15 (omega arith))))))))))))))))
 
 -- ---- what the readers need of a row
@@ -55,15 +56,15 @@ known-range kind n = go (row-sort kind) n where
   go (no-more k l) m = absurd (m refl)
   go bare m = (omega arith, omega arith)
   go labelled m = (omega arith, omega arith)
-  go (one k l h e) m = (omega arith, omega arith)
-  go (two k l h e) m = (omega arith, omega arith)
+  go (one k x l h e) m = (omega arith, omega arith)
+  go (two k x l h e) m = (omega arith, omega arith)
 
 -- A row's sizes: two bytes for the kind and two for each argument, of which there are two at most, and one at most where they are
 -- no entry numbers.
 pub record Measured (r : Row) : Type 0 where
   pub long : r .length ≡ 2 + 2 * r .arguments
   pub few : r .arguments ≤ 2
-  pub fewer : (numbersOf (r .shape) ≡ Entries → ⊥) → r .arguments ≤ 1
+  pub fewer : (r .numbers ≡ Entries → ⊥) → r .arguments ≤ 1
 
 -- The row of a known kind has these sizes.
 pub row-measured : (kind : ℕ) → (rowOf kind .length ≡ 0 → ⊥) → Measured (rowOf kind)
@@ -73,21 +74,32 @@ row-measured kind n = go (row-sort kind) n where
   go (no-more k l) m = absurd (m refl)
   go bare m = record { long = refl; few = omega arith; fewer = λ f. omega arith }
   go labelled m = record { long = refl; few = omega arith; fewer = λ f. omega arith }
-  go (one k l h e) m = record { long = refl; few = omega arith; fewer = λ f. omega arith }
-  go (two k l h e) m = record { long = refl; few = omega arith; fewer = λ f. absurd (f e) }
+  go (one k x l h e) m = record { long = refl; few = omega arith; fewer = λ f. omega arith }
+  go (two k x l h e) m = record { long = refl; few = omega arith; fewer = λ f. absurd (f e) }
 
 -- Kind 2 has a label.
-pub kind-label : numbersOf (shapeOf 2) ≡ Label
+pub kind-label : rowOf 2 .numbers ≡ Label
 unfolding rowOf numbersOf localNumbers
 kind-label = refl
 
 -- Kinds 3 to 14 have entry numbers.
-pub kind-entries : (kind : ℕ) → 3 ≤ kind → kind ≤ 14 → numbersOf (shapeOf kind) ≡ Entries
+pub kind-entries : (kind : ℕ) → 3 ≤ kind → kind ≤ 14 → rowOf kind .numbers ≡ Entries
 kind-entries kind l h = go (row-sort kind) l h where
-  go : {k : ℕ} {r : Row} → Sort k r → 3 ≤ k → k ≤ 14 → numbersOf (r .shape) ≡ Entries
+  go : {k : ℕ} {r : Row} → Sort k r → 3 ≤ k → k ≤ 14 → r .numbers ≡ Entries
   go no-zero a b = absurd (omega arith)
   go (no-more k c) a b = absurd (omega arith)
   go bare a b = absurd (omega arith)
   go labelled a b = absurd (omega arith)
-  go (one k c d e) a b = e
-  go (two k c d e) a b = e
+  go (one k x c d e) a b = e
+  go (two k x c d e) a b = e
+
+-- The numbers of a row are those of its shape.
+pub numbers-are : (kind : ℕ) → rowOf kind .numbers ≡ numbersOf (shapeOf kind)
+numbers-are kind = go (row-sort kind) where
+  go : {k : ℕ} {r : Row} → Sort k r → r .numbers ≡ numbersOf (r .shape)
+  go no-zero = refl
+  go (no-more k l) = refl
+  go bare = refl
+  go labelled = refl
+  go (one k x l h e) = refl
+  go (two k x l h e) = refl

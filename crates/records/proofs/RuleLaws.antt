@@ -11,7 +11,7 @@ use lib.ListN.{length}
 use Rattle.records.specs.Bytes.{numberAt}
 use Rattle.records.specs.First.{first}
 use Rattle.records.specs.Frame.{frameOf, kindAt, broken, nextOf, startOf}
-use Rattle.records.specs.Kinds.{rowOf, numbersOf, shapeOf}
+use Rattle.records.specs.Kinds.{rowOf}
 use Rattle.records.specs.Rule.{entryOf, entryAt, misdirected, faultyAt, fineAt, takenAt, ruleFault, ruleFaults, ruleStops, ruleEnd, ruleAnswer}
 use Rattle.records.specs.declared.answer.Answer.{Answer}
 use Rattle.records.specs.declared.answer.Answer.the-variants.{Accepted, Refused}
@@ -56,7 +56,7 @@ module _ (s : List ℕ) (own at : ℕ) where
 
     -- The record is whole: what its entry is decides.
     pub rule-whole : own < 64 → Whole ≡ frameOf s at (row .length)
-        → cond (misdirected (numbersOf (row .shape)) (row .arguments) own (entryOf row s at)) 3 0 ≡ ruleFault s own at
+        → cond (misdirected (row .numbers) (row .arguments) own (entryOf row s at)) 3 0 ≡ ruleFault s own at
     unfolding ruleFault entryAt
     rule-whole l e = rw (is, lt-leb 64 own l, ← (rw is at e))
 
@@ -67,7 +67,7 @@ module _ (s : List ℕ) (own at : ℕ) where
 pub rule-sound : (s : List ℕ) (own at : ℕ) → ruleFault s own at ≡ 0 → (own < 64) × Stands s at (rowOf (kindAt s at) .length)
 unfolding ruleFault
 rule-sound s own at e =
-    go (leb 64 own) (frameOf s at (rowOf (kindAt s at) .length)) (misdirected (numbersOf (shapeOf (kindAt s at))) (rowOf (kindAt s at) .arguments) own (entryAt s at)) refl refl e
+    go (leb 64 own) (frameOf s at (rowOf (kindAt s at) .length)) (misdirected (rowOf (kindAt s at) .numbers) (rowOf (kindAt s at) .arguments) own (entryAt s at)) refl refl e
   where
     go : (full : Bool) (f : Frame) (wrong : Bool) → leb 64 own ≡ full → frameOf s at (rowOf (kindAt s at) .length) ≡ f
         → _≡_ {A = ℕ} (cond full 4 (cond (broken f) 2 (cond wrong 3 0))) 0 → (own < 64) × Stands s at (rowOf (kindAt s at) .length)
@@ -87,20 +87,19 @@ module _ (s : List ℕ) (own at : ℕ) where
   -- A whole record: its entry decides.
   pub taken-whole : (row : Row) → row ≡ rowOf (kindAt s at) → own < 64 → Whole ≡ frameOf s at (row .length)
       → (e : Entry) (next : ℕ) (t : Taken) → e ≡ entryOf row s at → next ≡ at + 2 + row .length
-      → t ≡ cond (misdirected (numbersOf (row .shape)) (row .arguments) own e) (faultyAt 3 at) (fineAt e (row .shape) next) → t ≡ takenAt s own at
+      → t ≡ cond (misdirected (row .numbers) (row .arguments) own e) (faultyAt 3 at) (fineAt e next) → t ≡ takenAt s own at
   unfolding takenAt nextOf entryAt
   taken-whole row is l w e next t p q r =
-      go (misdirected (numbersOf (row .shape)) (row .arguments) own e) (ap (λ (x : Entry). cond (misdirected (numbersOf (row .shape)) (row .arguments) own x) 3 0) p ∙ rule-whole s own at row is l w) r
+      go (misdirected (row .numbers) (row .arguments) own e) (ap (λ (x : Entry). cond (misdirected (row .numbers) (row .arguments) own x) 3 0) p ∙ rule-whole s own at row is l w) r
     where
       long : numberAt s at ≡ row .length
       long = whole-stands s at (row .length) (sym w) .long
 
-      go : (b : Bool) → cond b 3 0 ≡ ruleFault s own at → t ≡ cond b (faultyAt 3 at) (fineAt e (row .shape) next) → t ≡ takenAt s own at
+      go : (b : Bool) → cond b 3 0 ≡ ruleFault s own at → t ≡ cond b (faultyAt 3 at) (fineAt e next) → t ≡ takenAt s own at
       go true f z = z ∙ taken-faulty 3 f (λ y. omega arith)
       go false f z =
-          z ∙ ap (λ (x : Entry). fineAt x (row .shape) next) (p ∙ ap (λ (x : Row). entryOf x s at) is)
-          ∙ ap (λ (x : Row). fineAt (entryAt s at) (x .shape) next) is
-          ∙ ap (fineAt (entryAt s at) (shapeOf (kindAt s at))) (q ∙ ap (λ (n : ℕ). at + 2 + n) (sym long))
+          z ∙ ap (λ (x : Entry). fineAt x next) (p ∙ ap (λ (x : Row). entryOf x s at) is)
+          ∙ ap (fineAt (entryAt s at)) (q ∙ ap (λ (n : ℕ). at + 2 + n) (sym long))
           ∙ rw (eq-eqb (ruleFault s own at) 0 (sym f))
 
   module _ (t : Taken) (e : t ≡ takenAt s own at) where
@@ -109,16 +108,16 @@ module _ (s : List ℕ) (own at : ℕ) where
     unfolding takenAt
     taken-fault = ap (λ (x : Taken). x .fault) e ∙ go (ruleFault s own at) (eqb (ruleFault s own at) 0) refl
       where
-        go : (f : ℕ) (b : Bool) → eqb f 0 ≡ b → cond b (fineAt (entryAt s at) (shapeOf (kindAt s at)) (nextOf s at)) (faultyAt f at) .fault ≡ f
+        go : (f : ℕ) (b : Bool) → eqb f 0 ≡ b → cond b (fineAt (entryAt s at) (nextOf s at)) (faultyAt f at) .fault ≡ f
         go f true k = sym (eqb-true f 0 k)
         go f false k = refl
 
-    -- Without one, the entry and the next offset are, and the shape is that of the entry's kind.
-    pub taken-fine : t .fault ≡ 0 → (t .entry ≡ entryAt s at) × (t .next ≡ nextOf s at) × (t .shape ≡ shapeOf (t .entry .kind))
-    unfolding takenAt entryAt entryOf
+    -- Without one, the entry and the next offset are.
+    pub taken-fine : t .fault ≡ 0 → (t .entry ≡ entryAt s at) × (t .next ≡ nextOf s at)
+    unfolding takenAt
     taken-fine z =
-        let f : t ≡ fineAt (entryAt s at) (shapeOf (kindAt s at)) (nextOf s at) = e ∙ rw (eq-eqb (ruleFault s own at) 0 (sym taken-fault ∙ z)) in
-        (ap (λ (x : Taken). x .entry) f, ap (λ (x : Taken). x .next) f, ap (λ (x : Taken). x .shape) f ∙ ap (λ (x : Taken). shapeOf (x .entry .kind)) (sym f))
+        let f : t ≡ fineAt (entryAt s at) (nextOf s at) = e ∙ rw (eq-eqb (ruleFault s own at) 0 (sym taken-fault ∙ z)) in
+        (ap (λ (x : Taken). x .entry) f, ap (λ (x : Taken). x .next) f)
 
 -- The turns of the reader's loop.
 module _ (s : List ℕ) where

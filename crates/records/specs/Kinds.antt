@@ -15,9 +15,24 @@ use Rattle.records.specs.declared.kind.Numbers.{Numbers}
 use Rattle.records.specs.declared.kind.Numbers.the-variants.{Nothing as NoNumbers, Label, Entries}
 use Rattle.records.specs.declared.kind.Row.{Row}
 
--- A row: the record's length, how many two-byte numbers its body has, and its shape.
+-- What the numbers of a body are: a label in kind 2, entry numbers in kinds 3 to 14.
+unfoldable pub localNumbers : Local → Numbers
+localNumbers Always = NoNumbers
+localNumbers HasLabel = Label
+localNumbers Negation = Entries
+localNumbers Disjunction = Entries
+localNumbers Conjunction = Entries
+
+unfoldable pub numbersOf : Shape → Numbers
+numbersOf Nothing = NoNumbers
+numbersOf (Here asked) = localNumbers asked
+numbersOf (SomeAlong x) = Entries
+numbersOf (UntilAlong x) = Entries
+numbersOf EveryChild = Entries
+
+-- A row: the record's length, how many two-byte numbers its body has, what these are, and its shape.
 abbrev pub row : ℕ → ℕ → Shape → Row
-row length arguments shape = record { length = length; arguments = arguments; shape = shape }
+row length arguments shape = record { length = length; arguments = arguments; numbers = numbersOf shape; shape = shape }
 
 -- What stands for a number that is no kind: length 0, which no record has.
 abbrev pub noKind : Row
@@ -72,21 +87,6 @@ shapeOf kind = rowOf kind .shape
 -- The axes in the order of kinds 6 to 9 and 10 to 13.
 unfoldable pub axisOf : ℕ → Axis
 axisOf n = getD (Child ∷ Parent ∷ Next ∷ []) n Previous
-
--- What the numbers of a body are: a label in kind 2, entry numbers in kinds 3 to 14.
-unfoldable pub localNumbers : Local → Numbers
-localNumbers Always = NoNumbers
-localNumbers HasLabel = Label
-localNumbers Negation = Entries
-localNumbers Disjunction = Entries
-localNumbers Conjunction = Entries
-
-unfoldable pub numbersOf : Shape → Numbers
-numbersOf Nothing = NoNumbers
-numbersOf (Here asked) = localNumbers asked
-numbersOf (SomeAlong x) = Entries
-numbersOf (UntilAlong x) = Entries
-numbersOf EveryChild = Entries
 
 -- A step along an axis leads back, to an element that opened before, or on to one that opens later.
 unfoldable pub leadsBack : Axis → Bool

@@ -9,14 +9,12 @@ use lib.ListN.{length}
 use Rattle.records.specs.Bytes.{numberAt}
 use Rattle.records.specs.First.{first}
 use Rattle.records.specs.Frame.{kindAt, brokenAt, nextOf, startOf, stopsAt}
-use Rattle.records.specs.Kinds.{rowOf, ruleLength, numbersOf, shapeOf}
+use Rattle.records.specs.Kinds.{rowOf, ruleLength}
 use Rattle.records.specs.Tags.{outside}
 use Rattle.records.specs.declared.answer.Answer.{Answer}
 use Rattle.records.specs.declared.answer.Answer.the-variants.{Accepted, Refused}
 use Rattle.records.specs.declared.kind.Numbers.{Numbers}
 use Rattle.records.specs.declared.kind.Numbers.the-variants.{Nothing, Label, Entries}
-use Rattle.records.specs.declared.kind.Shape.{Shape}
-use Rattle.records.specs.declared.kind.Shape.the-variants.{Nothing as NoShape}
 use Rattle.records.specs.declared.kind.Row.{Row}
 use Rattle.records.specs.declared.rule.Entry.{Entry}
 use Rattle.records.specs.declared.rule.Taken.{Taken}
@@ -48,22 +46,21 @@ abbrev pub row2 : List ℕ → ℕ → Bool
 row2 s at = brokenAt ruleLength s at
 
 abbrev pub row3 : List ℕ → ℕ → ℕ → Bool
-row3 s own at = misdirected (numbersOf (shapeOf (kindAt s at))) (rowOf (kindAt s at) .arguments) own (entryAt s at)
+row3 s own at = misdirected (rowOf (kindAt s at) .numbers) (rowOf (kindAt s at) .arguments) own (entryAt s at)
 
 -- The number that the record gets, in the order 4, 2, 3; 0 where it has no fault.
 unfoldable pub ruleFault : List ℕ → ℕ → ℕ → ℕ
 ruleFault s own at = cond (row4 own) 4 (cond (row2 s at) 2 (cond (row3 s own at) 3 0))
 
--- What a record is taken for: with a number there is no entry, and reading stays; without, there are its entry, its shape and the next
--- offset.
+-- What a record is taken for: with a number there is no entry, and reading stays; without, there are its entry and the next offset.
 abbrev pub faultyAt : ℕ → ℕ → Taken
-faultyAt number at = record { fault = number; entry = record { kind = 0; a = 0; b = 0 }; shape = NoShape; next = at }
+faultyAt number at = record { fault = number; entry = record { kind = 0; a = 0; b = 0 }; next = at }
 
-abbrev pub fineAt : Entry → Shape → ℕ → Taken
-fineAt e shape next = record { fault = 0; entry = e; shape = shape; next = next }
+abbrev pub fineAt : Entry → ℕ → Taken
+fineAt e next = record { fault = 0; entry = e; next = next }
 
 unfoldable pub takenAt : List ℕ → ℕ → ℕ → Taken
-takenAt s own at = cond (eqb (ruleFault s own at) 0) (fineAt (entryAt s at) (shapeOf (kindAt s at)) (nextOf s at)) (faultyAt (ruleFault s own at) at)
+takenAt s own at = cond (eqb (ruleFault s own at) 0) (fineAt (entryAt s at) (nextOf s at)) (faultyAt (ruleFault s own at) at)
 
 -- The number that record i gets: it is entry i.
 abbrev pub ruleFaults : List ℕ → ℕ → ℕ

@@ -1,7 +1,8 @@
 // The kinds of rule records: one match gives a record's length, how many numbers its body has, and what
 // its entry means.
 ghost use mathlib.Core.Path.{_≡_};
-ghost use Rattle.records.specs.Kinds.{axisOf, rowOf, localNumbers, numbersOf, leadsBack, shapeLooksBack};
+ghost use Prim.Native.Nat.{_≤_};
+ghost use Rattle.records.specs.Kinds.{axisOf, rowOf, leadsBack, shapeLooksBack};
 
 // The axes of the tree.
 pub enum Axis {
@@ -30,10 +31,18 @@ pub enum Shape {
     EveryChild,
 }
 
+// What the numbers in a record's body are.
+pub enum Numbers {
+    Nothing,
+    Label,
+    Entries,
+}
+
 // The row of a kind. Length 0 stands for a number that is no kind: no record is that short.
 pub struct Row {
     pub length: usize,
     pub arguments: usize,
+    pub numbers: Numbers,
     pub shape: Shape,
 }
 
@@ -49,88 +58,75 @@ fn axis_of(n: usize) -> Axis
     }
 }
 
-// The row of a kind.
-pub fn row_of(kind: usize) -> Row
+// The row of one of kinds 1 to 5.
+fn local_row(kind: usize) -> Row
+    requires { ⌜ (1 ≤ kind) × (kind ≤ 5) ⌝ }
     ensures { λ r. ⌜ r ≡ rowOf kind ⌝ }
 {
     match kind {
         1 => Row {
             length: 2,
             arguments: 0,
+            numbers: Numbers::Nothing,
             shape: Shape::Here(Local::Always),
         },
         2 => Row {
             length: 4,
             arguments: 1,
+            numbers: Numbers::Label,
             shape: Shape::Here(Local::HasLabel),
         },
         3 => Row {
             length: 4,
             arguments: 1,
+            numbers: Numbers::Entries,
             shape: Shape::Here(Local::Negation),
         },
         4 => Row {
             length: 6,
             arguments: 2,
+            numbers: Numbers::Entries,
             shape: Shape::Here(Local::Disjunction),
         },
-        5 => Row {
+        _ => Row {
             length: 6,
             arguments: 2,
+            numbers: Numbers::Entries,
             shape: Shape::Here(Local::Conjunction),
         },
+    }
+}
+
+// The row of a kind.
+pub fn row_of(kind: usize) -> Row
+    ensures { λ r. ⌜ r ≡ rowOf kind ⌝ }
+{
+    match kind {
+        1..=5 => local_row(kind),
         6..=9 => Row {
             length: 4,
             arguments: 1,
+            numbers: Numbers::Entries,
             shape: Shape::SomeAlong(axis_of(kind - 6)),
         },
         10..=13 => Row {
             length: 6,
             arguments: 2,
+            numbers: Numbers::Entries,
             shape: Shape::UntilAlong(axis_of(kind - 10)),
         },
         14 => Row {
             length: 4,
             arguments: 1,
+            numbers: Numbers::Entries,
             shape: Shape::EveryChild,
         },
         _ => Row {
             length: 0,
             arguments: 0,
+            numbers: Numbers::Nothing,
             shape: Shape::Nothing,
         },
-    }
-}
-
-// What the numbers in a record's body are.
-pub enum Numbers {
-    Nothing,
-    Label,
-    Entries,
-}
-
-fn local_numbers(asked: Local) -> Numbers
-    ensures { λ r. ⌜ r ≡ localNumbers asked ⌝ }
-{
-    match asked {
-        Local::Always => Numbers::Nothing,
-        Local::HasLabel => Numbers::Label,
-        Local::Negation => Numbers::Entries,
-        Local::Disjunction => Numbers::Entries,
-        Local::Conjunction => Numbers::Entries,
-    }
-}
-
-// What they are, by what the entry means.
-pub(crate) fn numbers_of(shape: Shape) -> Numbers
-    ensures { λ r. ⌜ r ≡ numbersOf shape ⌝ }
-{
-    match shape {
-        Shape::Nothing => Numbers::Nothing,
-        Shape::Here(asked) => local_numbers(asked),
-        Shape::SomeAlong(_) => Numbers::Entries,
-        Shape::UntilAlong(_) => Numbers::Entries,
-        Shape::EveryChild => Numbers::Entries,
     }
 }
 

@@ -4,15 +4,12 @@ ghost use mathlib.Core.Bool.{true, cond};
 ghost use Prim.Native.Nat.{_+_, _*_, _≤_, _<_};
 ghost use lib.ListN.{length};
 ghost use Rattle.records.specs.Bytes.{numberAt};
-ghost use Rattle.records.specs.Kinds.{numbersOf};
 ghost use Rattle.records.specs.Rule.{entryOf, misdirected, faultyAt, fineAt, takenAt, ruleAnswer};
 use crate::answer::Answer;
 use crate::frame::Frame;
 use crate::frame::frame_of;
 use crate::kind::Numbers;
 use crate::kind::Row;
-use crate::kind::Shape;
-use crate::kind::numbers_of;
 use crate::kind::row_of;
 use crate::number::number_at;
 
@@ -55,12 +52,11 @@ fn misdirects(numbers: Numbers, arguments: usize, own: usize, e: Entry) -> bool
     }
 }
 
-// What the record at an offset is taken for: its number, 0 where it has no fault; its entry, what that
-// means, and where the next record begins, where it has none; else no entry and the same offset.
+// What the record at an offset is taken for: its number, 0 where it has no fault; its entry and where
+// the next record begins, where it has none; else no entry and the same offset.
 pub struct Taken {
     pub fault: u32,
     pub entry: Entry,
-    pub shape: Shape,
     pub next: usize,
 }
 
@@ -76,7 +72,6 @@ fn faulty(number: u32, at: usize) -> Taken
     Taken {
         fault: number,
         entry: none,
-        shape: Shape::Nothing,
         next: at,
     }
 }
@@ -84,16 +79,15 @@ fn faulty(number: u32, at: usize) -> Taken
 // A whole record of this row, whose entry is e.
 fn whole_entry(row: Row, own: usize, e: Entry, at: usize, next: usize) -> Taken
     requires { ⌜ (e .kind < 65536) × (e .a < 65536) × (e .b < 65536) ⌝ }
-    ensures { λ r. ⌜ (r ≡ cond (misdirected (numbersOf (row .shape)) (row .arguments) own e) (faultyAt 3 at) (fineAt e (row .shape) next)) × (r .entry .kind < 65536) × (r .entry .a < 65536) × (r .entry .b < 65536) ⌝ }
+    ensures { λ r. ⌜ (r ≡ cond (misdirected (row .numbers) (row .arguments) own e) (faultyAt 3 at) (fineAt e next)) × (r .entry .kind < 65536) × (r .entry .a < 65536) × (r .entry .b < 65536) ⌝ }
 {
-    let shape = row.shape;
-    if misdirects(numbers_of(shape), row.arguments, own, e) {
+    let numbers = row.numbers;
+    if misdirects(numbers, row.arguments, own, e) {
         faulty(3, at)
     } else {
         Taken {
             fault: 0,
             entry: e,
-            shape: shape,
             next: next,
         }
     }

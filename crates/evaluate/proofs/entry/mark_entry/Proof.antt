@@ -17,7 +17,7 @@ enum-known-shape c = search needs
 
 local-pass-requires : tie.Need-local-pass-requires
 unfolding numbersOf
-local-pass-requires c κs = 
+local-pass-requires c κs =
     let p = c .before .before .before .before .before .before .before .before .before .pre in
     (λ h. p .0 (rw (c .before .before .shape .given .1) h), rw (p .1 .1 .1 .1) (p .1 .0))
 
@@ -29,7 +29,7 @@ column-requires c κs = search needs
 
 along-pass-requires : tie.Need-along-pass-requires
 unfolding numbersOf
-along-pass-requires c κs = 
+along-pass-requires c κs =
     let p = c .before .before .before .before .before .before .before .before .before .before .pre in
     (p .0 (rw (c .before .before .before .shape2 .given .1) refl), column-room (p .1 .1 .1 .0) [] _ _ (c .before .column .ensures) (p .1 .0))
 
@@ -41,7 +41,7 @@ column-requires-2 c κs = search needs
 
 along-pass-requires-2 : tie.Need-along-pass-requires-2
 unfolding numbersOf
-along-pass-requires-2 c κs = 
+along-pass-requires-2 c κs =
     let p = c .before .before .before .before .before .before .before .before .before .before .pre in
     (p .0 (rw (c .before .before .before .shape3 .given .1) refl), column-room (p .1 .1 .1 .0) [] _ _ (c .before .column2 .ensures) (p .1 .0))
 
@@ -50,7 +50,7 @@ enum-told-2 c = search needs
 
 turn-pass-requires : tie.Need-turn-pass-requires
 unfolding numbersOf columnOf
-turn-pass-requires c κs = 
+turn-pass-requires c κs =
     let p = c .before .before .before .before .before .before .before .before .pre in
     let r = column-room (p .1 .1 .1 .0) [] Child _ refl (p .1 .0) in
     (p .0 (rw (c .before .enum-told2 .given .1) refl), (r .0, (r .1, ups-nearest (p .1 .1 .1 .0) [] (p .1 .1 .0))))
@@ -68,7 +68,7 @@ same-length-2 : tie.Need-same-length-2
 same-length-2 c = search needs
 
 returns-3 : tie.Need-returns-3
-returns-3 c = 
+returns-3 c =
     let s = c .before .before .before .before .before .before .before .before .before .before .before .before .before in
     passed-some (s .pre .1 .1 .1 .0) _ _ _ _ _ (c .before .before .before .before .column .ensures) (c .before .before .before .before .before .before .shape2 .given .1) (c .before .before .along-pass .ensures)
 
@@ -76,7 +76,7 @@ same-length-3 : tie.Need-same-length-3
 same-length-3 c = search needs
 
 returns-4 : tie.Need-returns-4
-returns-4 c = 
+returns-4 c =
     let s = c .before .before .before .before .before .before .before .before .before .before .before .before .before in
     passed-until (s .pre .1 .1 .1 .0) _ _ _ _ _ (c .before .before .before .before .column2 .ensures) (c .before .before .before .before .before .before .shape3 .given .1) (c .before .before .along-pass2 .ensures)
 

@@ -27,7 +27,7 @@ enum-told-3 c = search needs
 
 gate-pass-requires-2 : tie.Need-gate-pass-requires-2
 unfolding localNumbers
-gate-pass-requires-2 c κs = 
+gate-pass-requires-2 c κs =
     let p = c .before .before .before .before .before .pre in
     let h = p .0 (rw (c .before .enum-told3 .given .1) refl) in ((omega (arith, h, p .1 .top), omega (arith, h, p .1 .top)), p .1)
 
@@ -36,7 +36,7 @@ enum-told-4 c = search needs
 
 gate-pass-requires-3 : tie.Need-gate-pass-requires-3
 unfolding localNumbers
-gate-pass-requires-3 c κs = 
+gate-pass-requires-3 c κs =
     let p = c .before .before .before .before .before .pre in
     let h = p .0 (rw (c .before .enum-told4 .given .1) refl) in ((omega (arith, h, p .1 .top), omega (arith, h, p .1 .top)), p .1)
 
@@ -45,7 +45,7 @@ enum-told-5 c = search needs
 
 gate-pass-requires-4 : tie.Need-gate-pass-requires-4
 unfolding localNumbers
-gate-pass-requires-4 c κs = 
+gate-pass-requires-4 c κs =
     let p = c .before .before .before .before .before .pre in
     let h = p .0 (rw (c .before .enum-told5 .given .1) refl) in ((omega (arith, h, p .1 .top), omega (arith, h, p .1 .top)), p .1)
 

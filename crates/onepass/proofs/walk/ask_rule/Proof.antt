@@ -8,6 +8,7 @@ use Rattle.records.specs.Bytes.{numberAt}
 use Rattle.records.specs.Frame.{nextOf}
 use Rattle.records.specs.Rule.{ruleFault}
 use Rattle.records.specs.Tables.{entriesBefore}
+use Rattle.records.specs.declared.kind.Row.{Row}
 use Rattle.records.specs.declared.answer.Answer.the-variants.{Refused}
 use Rattle.records.proofs.Reading.{mid-start}
 use Rattle.records.proofs.RuleLaws.{rule-sound, rule-next, rule-turn, rule-accepts, rule-refuses, rule-empty, rule-long, taken-fault, taken-fine}
@@ -53,23 +54,27 @@ loop-holds c = record { mid = mid-start _ _; few = omega arith; ahead-so = refl 
 take-entry-requires : tie.Need-take-entry-requires Inv-loop μ-loop
 take-entry-requires c κs = search needs
 
+row-of-requires : tie.Need-row-of-requires Inv-loop μ-loop
+row-of-requires c κs = search needs
+
 looks-back-requires : tie.Need-looks-back-requires Inv-loop μ-loop
 looks-back-requires c κs = search needs
 
 add-n : tie.Need-add-n Inv-loop μ-loop
-add-n c = omega (arith, c .before .before .before .before .before .loop .inv .few)
+add-n c = omega (arith, c .before .before .before .before .before .before .loop .inv .few)
 
 loop-less : tie.Need-loop-less Inv-loop μ-loop
-loop-less c = omega (arith, next (c .before), onward (c .before))
+loop-less c = omega (arith, next (c .before .before), onward (c .before .before))
 
 loop-again : tie.Need-loop-again Inv-loop μ-loop
 loop-again c =
-    let m = c .before .before .before .before .before .loop .inv in
-    let e = taken-fine _ _ _ _ (c .before .before .before .take-entry .ensures .0) (c .before .if4 .left) in
+    let m = c .before .before .before .before .before .before .loop .inv in
+    let e = taken-fine _ _ _ _ (c .before .before .before .before .take-entry .ensures .0) (c .before .before .if4 .left) .0 in
+    let is = ap (λ (x : Row). x .shape) (c .before .row-of .ensures) in
     record {
-      mid = rw (onward (c .before)) (rule-turn _ (m .mid) (c .before .before .before .before .if3 .left) (fine (c .before)));
-      few = omega (arith, rule-sound _ _ _ (fine (c .before)) .0);
-      ahead-so = ahead-then _ (m .mid) _ _ _ _ (e .0) (e .2) (m .ahead-so) (c .looks-back .ensures);
+      mid = rw (onward (c .before .before)) (rule-turn _ (m .mid) (c .before .before .before .before .before .if3 .left) (fine (c .before .before)));
+      few = omega (arith, rule-sound _ _ _ (fine (c .before .before)) .0);
+      ahead-so = ahead-then _ (m .mid) _ _ _ _ e is (m .ahead-so) (c .looks-back .ensures);
     }
 
 returns-3 : tie.Need-returns-3 Inv-loop μ-loop
@@ -101,6 +106,7 @@ ask-rule-spec =
     returns-2
     loop-holds
     take-entry-requires
+    row-of-requires
     looks-back-requires
     add-n
     loop-less

@@ -1,17 +1,17 @@
--- `row_of` finds the row of the table: a single kind by its number, a range of kinds by the law that serves every range. Assumes nothing.
+-- `row_of` finds the row of the table: a range of kinds by the law that serves every range. Assumes nothing.
 use Prim.Native.Nat.{ℕ, _-_, _≤_}
-use mathlib.Core.Path.{_≡_, refl, ap, sym}
 use native.Mathlib.Omega.{arith}
+use mathlib.Core.Path.{_≡_, refl, ap, sym}
 use lib.ListN.{List·getD-eq-default}
-use borrow.Author.Needs.{needs}
-use Rattle.records.specs.Kinds.{rowOf, row, noKind, table, axisOf}
-use Rattle.records.proofs.KindLaws.{each}
+use Rattle.records.specs.Kinds.{row, noKind, table, rowOf, axisOf, localNumbers, numbersOf}
 use Rattle.records.specs.declared.kind.Shape.the-variants.{SomeAlong, UntilAlong}
+use Rattle.records.proofs.KindLaws.{each}
+use borrow.Author.Needs.{needs}
 use Rattle.records.proofs.kind.row_of.Statement.{statement}
 use Rattle.records.proofs.kind.row_of.Tie as tie
 
-sub-axis-of : tie.Need-sub-axis-of
-sub-axis-of c = search needs
+local-row-requires : tie.Need-local-row-requires
+local-row-requires c κs = search needs
 
 axis-of-requires : tie.Need-axis-of-requires
 axis-of-requires c κs = search needs
@@ -20,49 +20,42 @@ axis-of-requires-2 : tie.Need-axis-of-requires-2
 axis-of-requires-2 c κs = search needs
 
 returns : tie.Need-returns
-unfolding rowOf axisOf
+unfolding rowOf numbersOf localNumbers axisOf
 returns c = sym (ap rowOf (c .match .keys1))
 
 returns-2 : tie.Need-returns-2
-unfolding rowOf axisOf
-returns-2 c = sym (ap rowOf (c .match .keys2))
+returns-2 c = c .local-row .ensures
 
 returns-3 : tie.Need-returns-3
-unfolding rowOf axisOf
-returns-3 c = sym (ap rowOf (c .match .keys3))
+unfolding rowOf numbersOf localNumbers axisOf
+returns-3 c =
+    rw (c .axis-of .ensures)
+    (sym (each (λ k. rowOf k ≡ row 4 1 (SomeAlong (axisOf (k - 6)))) 6 4 (refl, (refl, (refl, (refl, tt)))) (c .before .before .before .before .before .args .kind) (omega arith) (omega arith)))
 
 returns-4 : tie.Need-returns-4
-unfolding rowOf axisOf
-returns-4 c = sym (ap rowOf (c .match .keys4))
+unfolding rowOf numbersOf localNumbers axisOf
+returns-4 c =
+    rw (c .axis-of2 .ensures)
+    (sym (each (λ k. rowOf k ≡ row 6 2 (UntilAlong (axisOf (k - 10)))) 10 4 (refl, (refl, (refl, (refl, tt)))) (c .before .before .before .before .before .before .args .kind) (omega arith) (omega arith)))
 
 returns-5 : tie.Need-returns-5
-unfolding rowOf axisOf
-returns-5 c = sym (ap rowOf (c .match .keys5))
+unfolding rowOf numbersOf localNumbers axisOf
+returns-5 c = let z : c .before .before .args .kind ≡ 0 = omega arith in sym (ap rowOf z)
 
 returns-6 : tie.Need-returns-6
-unfolding rowOf axisOf
-returns-6 c = sym (ap rowOf (c .match .keys6))
-
-returns-7 : tie.Need-returns-7
-unfolding rowOf axisOf
-returns-7 c =
-    rw (c .axis-of .ensures)
-    (sym (each (λ k. rowOf k ≡ row 4 1 (SomeAlong (axisOf (k - 6)))) 6 4 (refl, (refl, (refl, (refl, tt)))) (c .before .before .before .before .args .kind) (omega arith) (omega arith)))
-
-returns-8 : tie.Need-returns-8
-unfolding rowOf axisOf
-returns-8 c =
-    rw (c .axis-of2 .ensures)
-    (sym (each (λ k. rowOf k ≡ row 6 2 (UntilAlong (axisOf (k - 10)))) 10 4 (refl, (refl, (refl, (refl, tt)))) (c .before .before .before .before .before .args .kind) (omega arith) (omega arith)))
-
-returns-9 : tie.Need-returns-9
-unfolding rowOf axisOf
-returns-9 c = let z : c .before .before .args .kind ≡ 0 = omega arith in sym (ap rowOf z)
-
-returns-10 : tie.Need-returns-10
-unfolding rowOf axisOf
-returns-10 c =
-    let l : 15 ≤ c .before .before .before .before .args .kind = omega arith in sym (List·getD-eq-default table noKind l)
+unfolding rowOf numbersOf localNumbers axisOf
+returns-6 c = let l : 15 ≤ c .before .before .before .before .before .args .kind = omega arith in sym (List·getD-eq-default table noKind l)
 
 pub row-of-spec : {M : Type 1} → statement M
-row-of-spec = tie.close (tie.spec sub-axis-of axis-of-requires axis-of-requires-2 returns returns-2 returns-3 returns-4 returns-5 returns-6 returns-7 returns-8 returns-9 returns-10)
+row-of-spec =
+    tie.close
+    (tie.spec
+    local-row-requires
+    axis-of-requires
+    axis-of-requires-2
+    returns
+    returns-2
+    returns-3
+    returns-4
+    returns-5
+    returns-6)
