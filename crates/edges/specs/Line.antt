@@ -4,8 +4,6 @@ use Rattle.edges.specs.declared.line.Line.{Line}
 
 -- The rule lies behind the two bytes of its length, the record behind the rule, and all of it fits.
 pub record Sound (line : Line) : Type 0 where
-  pub number-small : line .number ≤ 65537
-  pub times-small : line .times ≤ 65537
   pub rule-low : 2 ≤ line .rule
   pub rule-first : line .rule ≤ line .start
   pub start-first : line .start ≤ line .size

@@ -1,6 +1,7 @@
 // What is written of a case, behind its name.
 ghost use Prim.Native.Nat.{_≤_};
 ghost use lib.ListN.{length};
+use crate::line::NONE;
 use evaluate::evaluate::pz_evaluate;
 use judge::judge::put_record;
 
@@ -70,12 +71,12 @@ fn put_told(input: &[u8]) {
 
 // Puts what is answered to the rule and the report that a line spells, by a buffer of so many words;
 // where the line has no number of words, what the program prints.
-pub(crate) fn put_answer(bytes: &[u8], rule: usize, size: usize, words: usize)
+pub(crate) fn put_answer(bytes: &[u8], rule: usize, size: usize, words: u32)
     requires { ⌜ (2 ≤ rule) × (rule ≤ size) × (size ≤ length (now bytes)) ⌝ }
 {
     if words <= 4096 {
-        put_case(&bytes[2..rule], &bytes[rule..size], words);
-    } else if words == 65536 {
+        put_case(&bytes[2..rule], &bytes[rule..size], words as usize);
+    } else if words == NONE {
         put_told(&bytes[..size]);
     } else {
         put_unread();

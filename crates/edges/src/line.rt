@@ -19,17 +19,17 @@ const REPORT: usize = 4;
 const WORDS: usize = 5;
 
 // In the place of a number: no digit yet, or more than two bytes hold.
-const NONE: usize = 65536;
+pub(crate) const NONE: u32 = 65536;
 
-const TOO_LARGE: usize = 65537;
+const TOO_LARGE: u32 = 65537;
 
 // What is known of a line: the number that is being read, how often its record is put and where that
 // begins, where the rule ends, and how many bytes are spelt. The first two of them are the rule's
 // length, so that all are an input of the program.
 pub struct Line {
     pub part: usize,
-    pub number: usize,
-    pub times: usize,
+    pub number: u32,
+    pub times: u32,
     pub start: usize,
     pub rule: usize,
     pub size: usize,
@@ -67,15 +67,12 @@ fn with_name(c: u8) -> Line
 }
 
 // A number with one digit more.
-fn longer(number: usize, digit: usize) -> usize
-    requires { ⌜ (number ≤ 65537) × (digit < 10) ⌝ }
-    ensures { λ r. ⌜ r ≤ 65537 ⌝ }
-{
+fn longer(number: u32, digit: u8) -> u32 {
     if number == NONE {
-        return digit;
+        return digit as u32;
     }
-    let n = 10 * number + digit;
-    if n < NONE { n } else { TOO_LARGE }
+    let n = 10 * number as u64 + digit as u64;
+    if n < 65536 { n as u32 } else { TOO_LARGE }
 }
 
 // Puts a number as two bytes, the low one first.
@@ -88,7 +85,7 @@ fn put_number(number: usize, bytes: &mut [u8; 65536], at: usize)
 
 // How many bytes a number takes; more than there is room for where it is none of a record: too large,
 // or the number of words.
-fn width(number: usize, part: usize) -> usize
+fn width(number: u32, part: usize) -> usize
     ensures { λ r. ⌜ (2 ≤ r) × (r ≤ 65537) ⌝ }
 {
     if number == TOO_LARGE {
@@ -109,7 +106,7 @@ fn with_number(mut line: Line, bytes: &mut [u8; 65536]) -> Line
     if 65536 < end {
         return fresh(UNREAD);
     }
-    put_number(line.number, bytes, line.size);
+    put_number(line.number as usize, bytes, line.size);
     line.number = NONE;
     line.size = end;
     line
@@ -133,7 +130,7 @@ fn with_record(line: Line, bytes: &mut [u8; 65536]) -> Line
 {
     let whole = with_number(line, bytes);
     let count = whole.size - whole.start;
-    let end = whole.start + whole.times * count;
+    let end = whole.start + whole.times as usize * count;
     if 65536 < end {
         return fresh(UNREAD);
     }
@@ -164,7 +161,7 @@ fn with_sign(mut line: Line, c: u8, bytes: &mut [u8; 65536]) -> Line
 {
     match c {
         b'0'..=b'9' => {
-            line.number = longer(line.number, (c - b'0') as usize);
+            line.number = longer(line.number, c - b'0');
             line
         }
         b'*' => {

@@ -1,5 +1,5 @@
 -- `with_record`: the size of what is put as often as was said fits a number. Assumes nothing.
-use Prim.Native.Nat.{_-_}
+use Prim.Native.Nat.{_-_, _≤_}
 use native.Mathlib.Nat.{mul-le-mul-right}
 use native.Mathlib.Omega.{arith}
 use borrow.Author.Needs.{needs}
@@ -12,15 +12,20 @@ with-number-requires c κs = search needs
 sub-count : tie.Need-sub-count
 sub-count c = search needs
 
+cast-end : tie.Need-cast-end
+cast-end c = search needs
+
 mul-end : tie.Need-mul-end
 mul-end c =
     let w = c .before .before .with-number in
-    omega (arith, mul-le-mul-right (w .result .size - w .result .start) (w .ensures .times-small))
+    let h : w .result .times ≤ 4294967295 = omega arith in
+    omega (arith, mul-le-mul-right (w .result .size - w .result .start) h)
 
 add-end : tie.Need-add-end
 add-end c =
     let w = c .before .before .before .with-number in
-    omega (arith, mul-le-mul-right (w .result .size - w .result .start) (w .ensures .times-small))
+    let h : w .result .times ≤ 4294967295 = omega arith in
+    omega (arith, mul-le-mul-right (w .result .size - w .result .start) h)
 
 fresh-requires : tie.Need-fresh-requires
 fresh-requires c κs = search needs
@@ -43,6 +48,7 @@ with-record-spec =
     (tie.spec
     with-number-requires
     sub-count
+    cast-end
     mul-end
     add-end
     fresh-requires
