@@ -1,4 +1,1 @@
-pub mod Search
-pub mod Spell
-pub mod Asked
-pub mod Fresh
+pub mod Line

@@ -1,27 +1,17 @@
-// The readers, the evaluator and the program's record on document 01's cases and edges.
+// Document 01's cases and edges, run through the evaluator and the program's record.
 //
-// A line of standard input is one case: `rule` or `report`, then words that spell the bytes in
-// hexadecimal, low byte first, then `#` and what the case is. A word with `N*` in front is spelt N
-// times. Or `evaluate`, how many words the mark buffer has, at most 4,100, the rule's words, `/` and
-// the report's. Or `program` and the words of a whole input. Blank lines are skipped. For each case
-// one line is written: what it is, then what is answered; for the evaluator also what the buffer
-// holds afterwards, each of its words having been 7777 before; for the program the record, `|` for
-// each line feed. A line that cannot be read is answered so.
-mod edge;
-mod marks;
-mod print;
-mod search;
-mod spell;
-mod told;
-mod whole;
+// A line of standard input is one case: its name and a colon, the rule's records and a stroke, the
+// report's records and a stroke, and how many words the mark buffer has. A record is written as the
+// numbers of two bytes that it has, a comma stands between two records, and `N*` puts its record N
+// times. What is written is the name and what is answered; where the number of words is left out,
+// the record that the program prints. A line that cannot be read says so, so that no case is passed
+// over.
+mod answer;
+mod line;
 
 fn main() {
     let mut text = io::large_buffer();
     let n = io::read_full(0, &mut text);
-    let mut rule = io::buffer();
-    let mut bytes = spell::input_buffer();
-    let mut marks = [0u64; 4100];
-    let mut out = io::large_buffer();
-    let m = edge::run(&text[..n], &mut rule, &mut bytes, &mut marks, &mut out);
-    io::write_all(1, &out[..m]);
+    let mut bytes = io::large_buffer();
+    line::run(&text[..n], &mut bytes);
 }

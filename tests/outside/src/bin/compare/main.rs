@@ -110,6 +110,7 @@ fn fixed_inputs(run: &mut Run, random: &mut Random) {
 
 #[cfg(feature = "evaluate")]
 fn fixed_whole_reports(run: &mut Run, random: &mut Random) {
+    whole::fixed_inputs(run, random);
     let sample = edges::sample_report();
     for rule in edges::rules() {
         whole::compare_with(run, random, &rule, &sample, 6);

@@ -1,11 +1,13 @@
 //! The program, run on an input: what it writes.
 
 use crate::calls::Call;
-use crate::edges;
-use crate::inputs;
+use crate::edges::{self, entry, label, TRUE};
+use crate::inputs::{self, report_bytes};
 use crate::random::Random;
 use crate::run::{hex, Run};
 use outside::program::text;
+use outside::records::rule_bytes;
+use outside::records::Tag::{Close, Open};
 use std::io::Write;
 use std::process::{Command, Stdio};
 
@@ -19,7 +21,19 @@ pub fn edge_inputs() -> Vec<Vec<u8>> {
     inputs.extend([vec![], vec![0], vec![0, 0], vec![1, 0], vec![255, 255], vec![255; 65_536], vec![255; 65_537]]);
     inputs.push([vec![254, 255], vec![0; 65_534]].concat());
     inputs.push([vec![254, 255], vec![0; 65_535]].concat());
+    inputs.push([vec![255, 255], vec![0; 65_534]].concat());
     inputs.push([vec![255, 255], vec![0; 65_535]].concat());
+    // A rule length below what follows, the same, and above it, by its low byte and by its high byte.
+    let one = rule_bytes(&[TRUE]);
+    inputs.extend([[3, 0], [4, 0], [5, 0], [4, 1], [255, 255]].map(|length| [&length[..], &one].concat()));
+    inputs.push(input_bytes(&one, &[4]));
+    inputs.push(input_bytes(&[&one[..], &[0, 0]].concat(), &sample));
+    // The rule's fault comes before the report's.
+    inputs.push(input_bytes(&rule_bytes(&[entry(15, 0, 0)]), &[0; 40_961]));
+    inputs.extend([65_530, 65_531, 70_000].map(|len| input_bytes(&one, &vec![0; len])));
+    // The longest records: all selected, all but the root, and none.
+    let broad = |leaf: u16| report_bytes(&[&[Open(1)], &[Open(leaf), Close].repeat(4_095)[..], &[Close]].concat());
+    inputs.extend([TRUE, label(999), label(3)].map(|last| input_bytes(&rule_bytes(&[last]), &broad(999))));
     inputs
 }
 

@@ -1,5 +1,9 @@
 //! The whole report: the answer and every word of the buffer.
 
+mod fixed;
+
+pub use fixed::fixed_inputs;
+
 use crate::calls::Call;
 use crate::exported;
 use crate::inputs;

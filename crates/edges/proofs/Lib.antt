@@ -1,2 +1,0 @@
-pub mod SpellLaws
-pub mod FillLaws
