@@ -11,8 +11,9 @@
  * The console tests no label, rule, state or tally: it lends the library what it was given, and prints what the
  * library says. Only files that fail and lines that are no tags are its own affair.
  *
- * The record is standard output; all lines of input but accepted closings have a line in it. Exit status 0: all was
- * taken; 1: something was refused or not taken; 2: the console could not go on, and standard error says why. */
+ * The record is standard output; all lines of input but accepted closings have a line in it. A rule or a saved state
+ * that is refused has one line, and no tag is read then. Exit status 0: all was taken; 1: something was refused or not
+ * taken; 2: the console could not go on, and standard error says why. */
 #define _POSIX_C_SOURCE 200809L
 #include "console.h"
 #include <errno.h>
@@ -255,7 +256,8 @@ static enum status run(struct console *c, const char *rule, bool typed)
         return CANNOT_GO_ON;
     if (found == RESTORED && c->sound && !print_goes_on(c))
         return CANNOT_GO_ON;
-    if (!take_all(c) || !print_end(c))
+    /* Where rule or state are refused, so would every tag be: it has been said, and no tag is read. */
+    if ((c->sound && !take_all(c)) || !print_end(c))
         return CANNOT_GO_ON;
     return c->refused ? SOME_REFUSED : ALL_TAKEN;
 }

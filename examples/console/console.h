@@ -34,8 +34,9 @@ bool read_typed(const char *text, struct bytes *into);
 /* Puts what is kept in place of the save file. Gives false, having said why, where it cannot. */
 bool save(const struct kept *kept, const char *name);
 
-/* Brings tally and state back from the save file, if there is one. The rule has been read already: a save file
- * that was made with another one is not taken. Where the answer is CANNOT_RESTORE, it has said why. */
+/* Brings tally and state back from the save file, if there is one. The rule has been read already: a save file that
+ * was made with another one is not taken, and neither is one that was cut short. Where the answer is CANNOT_RESTORE,
+ * it has said why. */
 enum restored restore(struct kept *kept, const char *name);
 
 #endif
