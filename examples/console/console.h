@@ -21,6 +21,9 @@ struct kept {
 
 enum restored { NOTHING_SAVED, RESTORED, CANNOT_RESTORE };
 
+/* What a number means at a desk, and what to do. */
+const char *words_of(uint32_t number);
+
 /* Says on standard error what could not be done with a file, and why (errno); gives false. */
 bool cannot(const char *what, const char *name);
 
