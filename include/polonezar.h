@@ -15,6 +15,23 @@
  * has to be checked before a call. "Promise:" names the definition in Polonezar's source that says
  * exactly what.
  *
+ * Names follow one rule, so that each tells what it is:
+ *
+ *   pz_verb, pz_verb_thing         a function
+ *   struct pz_found_reply          what functions give: number, place (0 unless said), then what was found;
+ *                                  a function that finds nothing else gives the number alone
+ *   struct pz_things               what a caller keeps and lends
+ *   PZ_THING_FAULT                 a number given back: what is at fault, and how (enum pz_number)
+ *   PZ_THING_UNITS                 how many BYTES, ENTRIES, ELEMENTS or LEVELS a thing may have; a state has
+ *                                  exactly so many bytes
+ *   PZ_THING_LEAST, PZ_THING_MOST  the bounds of a number
+ *   PZ_THING_AT_FIELD              the offset of a field in the bytes of a thing
+ *
+ *   FAULT is SIZE (of no length that is taken), RECORD (a record is malformed), ARGUMENT (what a record names
+ *   is out of range), ORDER (parts do not follow each other), FULL (more parts than there may be), SHORT (too
+ *   little room), AHEAD (it looks ahead), or BAD (it cannot be used, for whatever cause). PZ_ACCEPTED is no
+ *   fault. Earlier names that do not follow the rule stay valid: each stands beside the one that it means.
+ *
  * Records. A number in a rule or a report has two bytes, the low byte first. A record is a length
  * (how many bytes follow the length), a kind, and a body of numbers; so a record takes 2 bytes more
  * than its length says. Records follow each other with nothing between them.
@@ -88,26 +105,31 @@ enum pz_size {
  * 7, 10 and 11; pz_tally gives 0 and 12; pz_read_path gives 0, 9, 13 and 14. */
 enum pz_number {
     PZ_ACCEPTED = 0,          /* taken as it is */
-    PZ_RULE_SIZE = 1,         /* the rule is empty, or longer than 512 bytes */
-    PZ_RULE_RECORD = 2,       /* a record of the rule is cut off, or its kind is none of 1 to 14, or
-                                 its length is not that of its kind */
-    PZ_RULE_ARGUMENT = 3,     /* an entry names itself or a later entry, or its label is not one of
-                                 1 to 999 */
+    PZ_RULE_SIZE = 1,         /* the rule has no bytes, or more than 512 */
+    PZ_RULE_RECORD = 2,       /* a record of the rule is cut off, its kind is none of 1 to 14, or its
+                                 length is not that of its kind */
+    PZ_RULE_ARGUMENT = 3,     /* a number in the rule is out of range: an entry names itself or a later
+                                 entry, or its label is not one of 1 to 999 */
     PZ_RULE_FULL = 4,         /* the rule goes on after its 64th entry */
-    PZ_REPORT_SIZE = 5,       /* the report is empty, or longer than 40,960 bytes */
-    PZ_REPORT_RECORD = 6,     /* a record of the report is cut off or malformed, or its label is not
-                                 one of 1 to 999 */
-    PZ_REPORT_ORDER = 7,      /* tags out of order: a closing with no element open, an opening when the
-                                 root is closed already, or a report that stops too early */
+    PZ_REPORT_SIZE = 5,       /* the report has no bytes, or more than 40,960 */
+    PZ_REPORT_RECORD = 6,     /* a record of the report is cut off, its kind is not 1 or 2, its length
+                                 is not that of its kind, or its label is not one of 1 to 999 */
+    PZ_REPORT_ORDER = 7,      /* tags do not pair: a closing with no element open, an opening after the
+                                 root is closed, or an element still open where the report ends */
     PZ_REPORT_FULL = 8,       /* more than 64 levels, or more than 4,096 elements */
-    PZ_MARKS_SHORT = 9,       /* the buffer for marks has too few words .. */
-    PZ_BUFFER_SHORT = 9,      /* .. and the same of any lent buffer: what is to be written has no room */
-    PZ_LOOKS_AHEAD = 10,      /* one pass cannot follow this rule: an entry looks ahead, whether the last
-                                 entry uses it or not */
+    PZ_BUFFER_SHORT = 9,      /* a lent buffer has no room for what is to be written: fewer words than
+                                 there are elements, or, for a typed rule, fewer bytes than the rule has */
+    PZ_RULE_AHEAD = 10,       /* one pass was asked for with a rule that looks ahead in an entry,
+                                 whether the last entry uses it or not */
     PZ_STATE_BAD = 11,        /* the state of one pass is damaged or of another length */
-    PZ_TALLY = 12,            /* the tally is full, or its counts do not add up */
-    PZ_TEXT_BAD = 13,         /* the text is empty, longer than 1,024 bytes, or no text of the grammar */
-    PZ_TEXT_FULL = 14         /* the text makes more than 64 entries */
+    PZ_TALLY_BAD = 12,        /* the tally is full, or its counts do not add up; it stays as it was */
+    PZ_TEXT_BAD = 13,         /* a typed rule is empty, has more than 1,024 bytes, or is no text of the
+                                 grammar */
+    PZ_TEXT_FULL = 14,        /* a typed rule makes more than 64 entries */
+    /* Earlier names, which stay. */
+    PZ_MARKS_SHORT = PZ_BUFFER_SHORT,
+    PZ_LOOKS_AHEAD = PZ_RULE_AHEAD,
+    PZ_TALLY = PZ_TALLY_BAD
 };
 
 /* What pz_read_rule gives. */
@@ -163,13 +185,14 @@ struct pz_report_reply pz_read_report(const uint8_t *report, size_t report_len);
  *   to any depth. A rule that names neither child nor right looks back only, so that pz_open takes it. */
 
 /* What pz_read_path gives. */
-struct pz_written {
+struct pz_written_reply {
     uint32_t number;          /* 0 taken, else why not: 9, 13 or 14 of pz_number */
     uint32_t place;           /* for 13 where the size is good, how many bytes of the text some text of the
                                  grammar, however long, begins with: the offset of the first byte that
                                  cannot stand there, or the length where the text ends too soon; else 0 */
     uint32_t written;         /* how many bytes of rule hold the rule, 4 to 456; 0 where it is refused */
 };
+#define pz_written pz_written_reply         /* earlier name */
 
 /* Reads a rule that was typed as text, and writes the rule's bytes. Lent for this call: text, text_len
  * bytes, only read; rule, a buffer of rule_len bytes, written where the text is taken: 512 (PZ_RULE_BYTES)
@@ -180,16 +203,17 @@ struct pz_written {
  * Order: 13 for the size, 13 for the grammar of the whole text, 14, and 9 where rule_len is below the
  * rule's length.
  * Promise: Typed (crates/typing/specs/Typed.antt). */
-struct pz_written pz_read_path(const uint8_t *text, size_t text_len, uint8_t *rule, size_t rule_len);
+struct pz_written_reply pz_read_path(const uint8_t *text, size_t text_len, uint8_t *rule, size_t rule_len);
 
 /* What pz_evaluate gives. */
-struct pz_evaluation {
+struct pz_evaluation_reply {
     uint32_t number;          /* 0 accepted, else why not: 1 to 9 of pz_number */
     uint32_t place;           /* as the reader of the rule (2, 3, 4) or of the report (6, 7, 8) gives it;
                                  else 0 */
     uint32_t elements;        /* how many elements the report has; 0 where anything is refused */
     uint32_t selected;        /* at how many of them the rule's last entry holds; 0 where anything is refused */
 };
+#define pz_evaluation pz_evaluation_reply   /* earlier name */
 
 /* Evaluates a rule on a report. Lent for this call: rule and report, only read; marks, a buffer of
  * `words` 64-bit words, written where all is accepted; 4,096 words are room for any report. Nothing is
@@ -201,9 +225,9 @@ struct pz_evaluation {
  * Order: what pz_read_rule gives for the rule, then what pz_read_report gives for the report, then 9
  * where the report has more elements than there are words.
  * Promise: Evaluated (crates/evaluate/specs/Evaluation.antt). */
-struct pz_evaluation pz_evaluate(const uint8_t *rule, size_t rule_len,
-                                 const uint8_t *report, size_t report_len,
-                                 uint64_t *marks, size_t words);
+struct pz_evaluation_reply pz_evaluate(const uint8_t *rule, size_t rule_len,
+                                       const uint8_t *report, size_t report_len,
+                                       uint64_t *marks, size_t words);
 
 /* The state of one pass: 1,040 bytes that the caller keeps. Numbers and words have the low byte first.
  *
@@ -232,26 +256,35 @@ struct pz_evaluation pz_evaluate(const uint8_t *rule, size_t rule_len,
  * presence or to a word, is not noticed, and the verdicts then mean nothing. */
 enum pz_state {
     PZ_STATE_BYTES = 1040,
-    PZ_STATE_DEPTH = 0,
-    PZ_STATE_ELEMENTS = 2,
-    PZ_STATE_ROOT_CLOSED = 4,
-    PZ_STATE_ZEROS = 6,
-    PZ_STATE_PRESENCE = 8,
-    PZ_STATE_OPEN_WORDS = 16,
-    PZ_STATE_LAST_WORDS = 528
+    PZ_STATE_AT_DEPTH = 0,
+    PZ_STATE_AT_ELEMENTS = 2,
+    PZ_STATE_AT_ROOT_CLOSED = 4,
+    PZ_STATE_AT_ZEROS = 6,
+    PZ_STATE_AT_PRESENCE = 8,
+    PZ_STATE_AT_OPEN_WORDS = 16,
+    PZ_STATE_AT_LAST_WORDS = 528,
+    /* Earlier names, which stay. */
+    PZ_STATE_DEPTH = PZ_STATE_AT_DEPTH,
+    PZ_STATE_ELEMENTS = PZ_STATE_AT_ELEMENTS,
+    PZ_STATE_ROOT_CLOSED = PZ_STATE_AT_ROOT_CLOSED,
+    PZ_STATE_ZEROS = PZ_STATE_AT_ZEROS,
+    PZ_STATE_PRESENCE = PZ_STATE_AT_PRESENCE,
+    PZ_STATE_OPEN_WORDS = PZ_STATE_AT_OPEN_WORDS,
+    PZ_STATE_LAST_WORDS = PZ_STATE_AT_LAST_WORDS
 };
 
 /* What the calls of one pass give. */
-struct pz_step {
+struct pz_step_reply {
     uint32_t number;          /* 0 accepted, else why not */
     uint32_t place;           /* for 2, 3 and 4 as pz_read_rule gives it; else 0 */
     uint32_t verdict;         /* at an accepted opening 1 where the last entry holds at the element, else 0 */
 };
+#define pz_step pz_step_reply               /* earlier name */
 
 /* Begins a pass. Lent for this call: state, state_len bytes, written; what it holds does not matter.
  * Gives: number 0 and a state of zeros; a length other than 1,040 is 11, and the bytes stay as they were.
  * Promise: Started (crates/onepass/specs/Step.antt). */
-struct pz_step pz_start(uint8_t *state, size_t state_len);
+struct pz_step_reply pz_start(uint8_t *state, size_t state_len);
 
 /* Opens an element. Lent for this call: rule, rule_len bytes, only read; state, state_len bytes, read
  * and written. Nothing is kept.
@@ -264,13 +297,13 @@ struct pz_step pz_start(uint8_t *state, size_t state_len);
  * Order: what pz_read_rule gives for the rule, then 10, 11, 6 (the label is not one of 1 to 999), 7 (the
  * root is closed), 8 (64 elements are open, or 4,096 have been opened).
  * Promise: Opened (crates/onepass/specs/Step.antt). */
-struct pz_step pz_open(const uint8_t *rule, size_t rule_len, uint8_t *state, size_t state_len,
-                       uint32_t label);
+struct pz_step_reply pz_open(const uint8_t *rule, size_t rule_len, uint8_t *state, size_t state_len,
+                             uint32_t label);
 
 /* Closes the innermost open element. Lent as for pz_open. Gives number 0, verdict 0; else as pz_open.
  * Order: what pz_read_rule gives for the rule, then 10, 11, 7 (no element is open).
  * Promise: Closed (crates/onepass/specs/Step.antt). */
-struct pz_step pz_close(const uint8_t *rule, size_t rule_len, uint8_t *state, size_t state_len);
+struct pz_step_reply pz_close(const uint8_t *rule, size_t rule_len, uint8_t *state, size_t state_len);
 
 /* Three counts that a caller keeps: begin with zeros. */
 struct pz_counts {

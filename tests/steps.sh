@@ -1,4 +1,5 @@
-# Sourced by the test scripts: steps that are counted. `out` names the folder for what they write.
+# Sourced by the test scripts at the root of the project: steps that are counted, and what C programs are linked with.
+# `out` names the folder for what they write.
 passed=0
 failed=0
 mkdir -p "$out/logs"
@@ -46,6 +47,19 @@ step() {
 # has TOOL: whether it is there; what is not there is said, and never passed over quietly.
 has() {
     command -v "$1" >"$out/logs/which.log" || { echo "absent: $1"; return 1; }
+}
+
+# link_with: what a C program is compiled and linked with: `include` and `archives`, from the package that PZ_PACKAGE
+# names; else the header that stands here and the archives of the exported crates, which are built first.
+link_with() {
+    if [ -n "${PZ_PACKAGE:-}" ]; then
+        include=$PZ_PACKAGE/include
+        archives=("$PZ_PACKAGE/lib/libpolonezar.a")
+    else
+        step "archives" ./archives
+        include=$PWD/include
+        mapfile -t archives < <(./archives --list)
+    fi
 }
 
 # finish: the last line, and the exit status.

@@ -11,10 +11,12 @@
  * The console tests no label, rule, state or tally: it lends the library what it was given, and prints what the
  * library says. Only files that fail and lines that are no tags are its own affair.
  *
- * The record is standard output; all lines of input but accepted closings have a line in it. Exit status 0: all was
- * taken; 1: something was refused or not taken; 2: the console could not go on, and standard error says why. */
+ * The record is standard output; all lines of input but accepted closings have a line in it. A rule or a saved state
+ * that is refused has one line, and no tag is read then. Exit status 0: all was taken; 1: something was refused or not
+ * taken; 2: the console could not go on, and standard error says why. */
 #define _POSIX_C_SOURCE 200809L
 #include "console.h"
+#include "words.h"
 #include <errno.h>
 #include <inttypes.h>
 #include <stdio.h>
@@ -32,23 +34,12 @@ struct console {
     unsigned long refused;      /* how much was refused or not taken since the console was started */
 };
 
-static const char *const words[] = {
-    [PZ_ACCEPTED] = "taken",
-    [PZ_RULE_SIZE] = "the rule file is empty or has more than 512 bytes; have the rule sent again",
-    [PZ_RULE_RECORD] = "the rule has a broken entry here; have the rule written again",
-    [PZ_RULE_ARGUMENT] = "the rule's entry here has a label that is not 1 to 999, or names an entry that does not "
-                         "come before it; have the rule corrected",
-    [PZ_RULE_FULL] = "the rule goes on here after 64 entries, which is the most; have it split",
-    [PZ_REPORT_SIZE] = "the report is empty or has more than 40,960 bytes",
-    [PZ_REPORT_RECORD] = "the label is not 1 to 999",
-    [PZ_REPORT_ORDER] = "nothing is open to be closed, or the site is closed and nothing more can open",
-    [PZ_REPORT_FULL] = "64 elements are open or 4,096 have been opened, which is the most; split the report",
-    [PZ_MARKS_SHORT] = "there is too little room for the marks",
-    [PZ_LOOKS_AHEAD] = "the rule looks ahead, so nothing can be decided at the moment of opening; evaluate the whole "
-                       "report instead",
-    [PZ_STATE_BAD] = "the saved state is damaged; put the save file aside and begin the report again",
-    [PZ_TALLY] = "the tally is full or its counts do not add up; it stays as it is, and no verdict is counted",
-};
+const char *words_of(uint32_t number)
+{
+    if (number < sizeof words / sizeof words[0] && words[number] != NULL)
+        return words[number];
+    return "this console has no words for it";
+}
 
 /* Sends what was printed on its way; gives false, having said so, where a part of it could not be printed. */
 static bool printed(void)
@@ -66,7 +57,7 @@ static bool print_refused(struct console *c, uint32_t number, uint32_t place)
     printf("refused %" PRIu32, number);
     if (number == PZ_RULE_RECORD || number == PZ_RULE_ARGUMENT || number == PZ_RULE_FULL)
         printf(" at byte %" PRIu32, place);
-    printf(": %s\n", number < sizeof words / sizeof words[0] ? words[number] : "this console has no words for it");
+    printf(": %s\n", words_of(number));
     return printed();
 }
 
@@ -100,11 +91,11 @@ static bool keep(struct console *c)
 static bool open_element(struct console *c, uint32_t label)
 {
     struct kept *k = &c->kept;
-    struct pz_step step = pz_open(k->rule.at, k->rule.len, k->state.at, k->state.len, label);
+    struct pz_step_reply step = pz_open(k->rule.at, k->rule.len, k->state.at, k->state.len, label);
     uint32_t counted;
     if (step.number != PZ_ACCEPTED)
         return print_refused(c, step.number, step.place);
-    printf("element %u, label %" PRIu32 ": %s\n", state_number(c, PZ_STATE_ELEMENTS) - 1, label,
+    printf("element %u, label %" PRIu32 ": %s\n", state_number(c, PZ_STATE_AT_ELEMENTS) - 1, label,
            step.verdict ? "selected" : "passed over");
     if (!printed())
         return false;
@@ -118,7 +109,7 @@ static bool open_element(struct console *c, uint32_t label)
 static bool close_element(struct console *c)
 {
     struct kept *k = &c->kept;
-    struct pz_step step = pz_close(k->rule.at, k->rule.len, k->state.at, k->state.len);
+    struct pz_step_reply step = pz_close(k->rule.at, k->rule.len, k->state.at, k->state.len);
     if (step.number != PZ_ACCEPTED)
         return print_refused(c, step.number, step.place);
     return keep(c);
@@ -186,7 +177,7 @@ static bool take_all(struct console *c)
 static bool ask(struct console *c)
 {
     struct kept *k = &c->kept;
-    struct pz_step step = pz_open(k->rule.at, k->rule.len, k->state.at, k->state.len, 0);
+    struct pz_step_reply step = pz_open(k->rule.at, k->rule.len, k->state.at, k->state.len, 0);
     struct pz_counts copy = k->tally;
     uint32_t counted = pz_tally(&copy, 0);
     c->sound = step.number == PZ_REPORT_RECORD;
@@ -198,7 +189,7 @@ static bool ask(struct console *c)
 /* Every element was opened by a tag, and all but those still open were closed by one: so many tags were accepted. */
 static bool print_goes_on(const struct console *c)
 {
-    unsigned opened = state_number(c, PZ_STATE_ELEMENTS), open = state_number(c, PZ_STATE_DEPTH);
+    unsigned opened = state_number(c, PZ_STATE_AT_ELEMENTS), open = state_number(c, PZ_STATE_AT_DEPTH);
     printf("goes on after tag %u: elements opened %u, still open %u\n", opened + opened - open, opened, open);
     return printed();
 }
@@ -213,10 +204,10 @@ static bool print_end(const struct console *c)
            t->passed_over);
     if (!c->sound)
         printf("no report: nothing could be taken\n");
-    else if (state_number(c, PZ_STATE_ROOT_CLOSED))
+    else if (state_number(c, PZ_STATE_AT_ROOT_CLOSED))
         printf("report complete: the site is closed\n");
     else
-        printf("report not complete: still open %u\n", state_number(c, PZ_STATE_DEPTH));
+        printf("report not complete: still open %u\n", state_number(c, PZ_STATE_AT_DEPTH));
     return printed();
 }
 
@@ -255,7 +246,8 @@ static enum status run(struct console *c, const char *rule, bool typed)
         return CANNOT_GO_ON;
     if (found == RESTORED && c->sound && !print_goes_on(c))
         return CANNOT_GO_ON;
-    if (!take_all(c) || !print_end(c))
+    /* Where rule or state are refused, so would every tag be: it has been said, and no tag is read. */
+    if ((c->sound && !take_all(c)) || !print_end(c))
         return CANNOT_GO_ON;
     return c->refused ? SOME_REFUSED : ALL_TAKEN;
 }

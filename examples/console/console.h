@@ -21,6 +21,9 @@ struct kept {
 
 enum restored { NOTHING_SAVED, RESTORED, CANNOT_RESTORE };
 
+/* What a number means at a desk, and what to do. */
+const char *words_of(uint32_t number);
+
 /* Says on standard error what could not be done with a file, and why (errno); gives false. */
 bool cannot(const char *what, const char *name);
 
@@ -34,8 +37,9 @@ bool read_typed(const char *text, struct bytes *into);
 /* Puts what is kept in place of the save file. Gives false, having said why, where it cannot. */
 bool save(const struct kept *kept, const char *name);
 
-/* Brings tally and state back from the save file, if there is one. The rule has been read already: a save file
- * that was made with another one is not taken. Where the answer is CANNOT_RESTORE, it has said why. */
+/* Brings tally and state back from the save file, if there is one. The rule has been read already: a save file that
+ * was made with another one is not taken, and neither is one that was cut short. Where the answer is CANNOT_RESTORE,
+ * it has said why. */
 enum restored restore(struct kept *kept, const char *name);
 
 #endif

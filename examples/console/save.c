@@ -2,8 +2,8 @@
  *
  * A save file is four numbers of four bytes, the low byte first: seen, selected, passed over, and the rule's length;
  * then the rule; then the state, to the end of the file. Numbers are put together byte by byte, so that a file goes
- * on under any machine. The state comes last and has no length of its own: bytes that are missing or too many
- * are missing or too many in the state, and the library says so. */
+ * on under any machine. The state comes last and has no length of its own: bytes that are too many are too many in the
+ * state, and the library says so. A file that lacks bytes was cut short, and nothing is read out of it. */
 #define _POSIX_C_SOURCE 200809L
 #include "console.h"
 #include <errno.h>
@@ -57,13 +57,11 @@ static void put_number(uint8_t *at, uint32_t number)
         at[i] = (uint8_t)(number >> 8 * i);
 }
 
-/* A number of a save file. A byte that is missing reads as 255: the counts of a file cut that early do not add up,
- * and its rule is longer than what is left, so that the library has a cut tally and a cut state to refuse. */
-static uint32_t number_at(const struct bytes *file, size_t at)
+static uint32_t number_at(const uint8_t *at)
 {
     uint32_t number = 0;
-    for (size_t i = 0; i < 4; i++)
-        number |= (uint32_t)(at + i < file->len ? file->at[at + i] : 255) << 8 * i;
+    for (int i = 0; i < 4; i++)
+        number |= (uint32_t)at[i] << 8 * i;
     return number;
 }
 
@@ -117,34 +115,50 @@ bool save(const struct kept *kept, const char *name)
     return saved;
 }
 
+/* Says why a save file is not taken. */
+static enum restored not_taken(const char *name, const char *why)
+{
+    fprintf(stderr, "console: %s %s\n", name, why);
+    return CANNOT_RESTORE;
+}
+
+/* Parts a save file into tally, rule and state. The rule is compared first, as far as it is there: only of a file that
+ * was made with this rule is it known how many bytes it has to have. */
+static enum restored part(struct kept *kept, struct bytes *file, const char *name)
+{
+    static const char cut[] = "was cut short: put it aside and begin the report again";
+    size_t left, of_rule;
+    if (file->len < HEAD)
+        return not_taken(name, cut);
+    left = file->len - HEAD;
+    of_rule = left < kept->rule.len ? left : kept->rule.len;
+    /* The words of a state are marks of the entries of one rule; under another they mean something else, and nothing
+     * in the state's bytes tells. This is why the file holds the rule. */
+    if (number_at(file->at + 12) != kept->rule.len || memcmp(file->at + HEAD, kept->rule.at, of_rule) != 0)
+        return not_taken(name, "was made with another rule, or is damaged: go on with the rule that it was made with, "
+                               "or begin with another save file");
+    if (left - of_rule < PZ_STATE_BYTES)
+        return not_taken(name, cut);
+    kept->tally.seen = number_at(file->at);
+    kept->tally.selected = number_at(file->at + 4);
+    kept->tally.passed_over = number_at(file->at + 8);
+    file->len = left - of_rule;
+    memmove(file->at, file->at + HEAD + of_rule, file->len);
+    kept->state = *file;
+    return RESTORED;
+}
+
 enum restored restore(struct kept *kept, const char *name)
 {
     struct bytes file = {NULL, 0};
-    size_t rule_len;
-    if (!read_whole(name, &file)) {
-        if (errno == ENOENT)
-            return NOTHING_SAVED;
+    enum restored found = CANNOT_RESTORE;
+    if (read_whole(name, &file))
+        found = part(kept, &file, name);
+    else if (errno == ENOENT)
+        found = NOTHING_SAVED;
+    else
         cannot("read", name);
+    if (found != RESTORED)
         free(file.at);
-        return CANNOT_RESTORE;
-    }
-    kept->tally.seen = number_at(&file, 0);
-    kept->tally.selected = number_at(&file, 4);
-    kept->tally.passed_over = number_at(&file, 8);
-    rule_len = number_at(&file, 12);
-    if (file.len < HEAD || file.len - HEAD < rule_len) {
-        file.len = 0;           /* cut before the state begins: there is no byte of it */
-    } else if (rule_len != kept->rule.len || memcmp(file.at + HEAD, kept->rule.at, rule_len) != 0) {
-        /* The words of a state are marks of the entries of one rule; under another they mean something else, and
-         * nothing in the state's bytes tells. This is why the file holds the rule. */
-        fprintf(stderr, "console: %s was made with another rule, or is damaged: go on with the rule that it was made "
-                "with, or begin with another save file\n", name);
-        free(file.at);
-        return CANNOT_RESTORE;
-    } else {
-        file.len -= HEAD + rule_len;
-        memmove(file.at, file.at + HEAD + rule_len, file.len);
-    }
-    kept->state = file;
-    return RESTORED;
+    return found;
 }

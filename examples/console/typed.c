@@ -13,7 +13,7 @@ static bool goes_on(const char *text, size_t place, const char *with)
 {
     uint8_t tried[PZ_TEXT_BYTES];
     size_t more = strlen(with);
-    struct pz_written w;
+    struct pz_written_reply w;
     if (place > sizeof tried || more > sizeof tried - place)
         return false;
     memcpy(tried, text, place);
@@ -96,7 +96,7 @@ static void show(const char *text, size_t len, size_t place, bool all)
     fprintf(stderr, "\n%s", dots ? "    (a byte that does not print is shown as a dot)\n" : "");
 }
 
-static void say_refused(const char *text, size_t len, struct pz_written w)
+static void say_refused(const char *text, size_t len, struct pz_written_reply w)
 {
     bool size = len == 0 || len > PZ_TEXT_BYTES, all = size || w.number != PZ_TEXT_BAD;
     fprintf(stderr, "console: the rule's text: refused %u", (unsigned)w.number);
@@ -109,8 +109,7 @@ static void say_refused(const char *text, size_t len, struct pz_written w)
     else if (size)
         fprintf(stderr, ": it has %zu bytes, and %d are the most; type the rule shorter\n", len, PZ_TEXT_BYTES);
     else
-        fprintf(stderr, ": it makes more than %d entries, which is the most; type the rule shorter, or as two rules\n",
-                PZ_RULE_ENTRIES);
+        fprintf(stderr, ": %s\n", words_of(w.number));
     if (len > 0)
         show(text, len, w.place, all);
 }
@@ -118,7 +117,7 @@ static void say_refused(const char *text, size_t len, struct pz_written w)
 bool read_typed(const char *text, struct bytes *into)
 {
     size_t len = strlen(text);
-    struct pz_written w;
+    struct pz_written_reply w;
     into->at = malloc(PZ_RULE_BYTES);
     if (into->at == NULL)
         return cannot("read", "the rule's text");

@@ -145,7 +145,7 @@ static void check(int same, const char *call, unsigned entries, const char *repo
 static void evaluation(unsigned entries, const struct rule *rule, const struct report *report)
 {
     static uint64_t ours[ELEMENTS], plain[ELEMENTS];
-    struct pz_evaluation a = {0, 0, 0, 0}, b = a;
+    struct pz_evaluation_reply a = {0, 0, 0, 0}, b = a;
     double best = 1e9, plain_best = 1e9;
     for (int round = 0; round < ROUNDS; round++) {
         double t = microseconds(), u, v;
@@ -161,8 +161,8 @@ static void evaluation(unsigned entries, const struct rule *rule, const struct r
 }
 
 struct calls {
-    struct pz_step (*open)(const uint8_t *, size_t, uint8_t *, size_t, uint32_t);
-    struct pz_step (*close)(const uint8_t *, size_t, uint8_t *, size_t);
+    struct pz_step_reply (*open)(const uint8_t *, size_t, uint8_t *, size_t, uint32_t);
+    struct pz_step_reply (*close)(const uint8_t *, size_t, uint8_t *, size_t);
 };
 
 /* Feeds a report's tags; how many verdicts were true, or a number above every count where a call was refused. */
@@ -171,7 +171,7 @@ static uint32_t feed(struct calls calls, const struct rule *rule, const struct r
     uint32_t selected = 0;
     pz_start(state, PZ_STATE_BYTES);
     for (size_t at = 0; at < report->size; at += report->bytes[at] + 2u) {
-        struct pz_step r;
+        struct pz_step_reply r;
         if (report->bytes[at + 2] == 1)
             r = calls.open(rule->bytes, rule->size, state, PZ_STATE_BYTES,
                            report->bytes[at + 4] | (uint32_t)report->bytes[at + 5] << 8);
@@ -272,7 +272,7 @@ static struct text steps_up(size_t bytes)
 static int same_path(const struct text *t, size_t size, size_t room)
 {
     static uint8_t ours[PZ_RULE_BYTES], plain[PZ_RULE_BYTES];
-    struct pz_written a, b;
+    struct pz_written_reply a, b;
     memset(ours, 170, sizeof ours);
     memset(plain, 170, sizeof plain);
     a = pz_read_path((const uint8_t *)t->bytes, size, ours, room);
@@ -305,7 +305,7 @@ static void damaged_paths(const char *name, const struct text *given)
     }
 }
 
-typedef struct pz_written (*read_path)(const uint8_t *, size_t, uint8_t *, size_t);
+typedef struct pz_written_reply (*read_path)(const uint8_t *, size_t, uint8_t *, size_t);
 
 /* Lowers best to the time of one call, where so much room is lent and so many calls are made. */
 static void time_path(read_path read, const struct text *t, size_t room, int calls, double *best)

@@ -159,12 +159,13 @@ static void mark(struct entry e, unsigned i, const struct elements *of, unsigned
     }
 }
 
-struct pz_evaluation plain_evaluate(const uint8_t *rule, size_t rule_len, const uint8_t *report, size_t report_len,
-                                    uint64_t *marks, size_t words)
+struct pz_evaluation_reply plain_evaluate(const uint8_t *rule, size_t rule_len,
+                                          const uint8_t *report, size_t report_len,
+                                          uint64_t *marks, size_t words)
 {
     struct entry entries[64];
     struct elements of;
-    struct pz_evaluation r = {0, 0, 0, 0};
+    struct pz_evaluation_reply r = {0, 0, 0, 0};
     struct answer rule_answer = read_rule(rule, rule_len, entries), report_answer;
     unsigned i, s;
     if (rule_answer.number) {
@@ -189,9 +190,9 @@ struct pz_evaluation plain_evaluate(const uint8_t *rule, size_t rule_len, const 
     return r;
 }
 
-static struct pz_step step(uint32_t number, uint32_t place, uint32_t verdict)
+static struct pz_step_reply step(uint32_t number, uint32_t place, uint32_t verdict)
 {
-    struct pz_step r = {number, place, verdict};
+    struct pz_step_reply r = {number, place, verdict};
     return r;
 }
 
@@ -225,15 +226,15 @@ static struct answer begin(const uint8_t *rule, size_t rule_len, const uint8_t *
         if (kind == CHILD || kind == NEXT || kind == DOWN || kind == RIGHT || kind == EVERY_CHILD) return refusal(10, 0);
     }
     if (state_len != PZ_STATE_BYTES) return refusal(11, 0);
-    depth = number_at(state, PZ_STATE_DEPTH);
-    count = number_at(state, PZ_STATE_ELEMENTS);
-    closed = number_at(state, PZ_STATE_ROOT_CLOSED);
+    depth = number_at(state, PZ_STATE_AT_DEPTH);
+    count = number_at(state, PZ_STATE_AT_ELEMENTS);
+    closed = number_at(state, PZ_STATE_AT_ROOT_CLOSED);
     if (depth > 64 || depth > count || count > 4096 || closed > 1 || (closed && depth) || state[6] || state[7])
         return refusal(11, 0);
     return r;
 }
 
-struct pz_step plain_open(const uint8_t *rule, size_t rule_len, uint8_t *state, size_t state_len, uint32_t label)
+struct pz_step_reply plain_open(const uint8_t *rule, size_t rule_len, uint8_t *state, size_t state_len, uint32_t label)
 {
     struct entry entries[64];
     struct answer r = begin(rule, rule_len, state, state_len, entries);
@@ -241,13 +242,13 @@ struct pz_step plain_open(const uint8_t *rule, size_t rule_len, uint8_t *state, 
     unsigned depth, count, i;
     if (r.number) return step(r.number, r.place, 0);
     if (label < 1 || label > 999) return step(6, 0, 0);
-    depth = number_at(state, PZ_STATE_DEPTH);
-    count = number_at(state, PZ_STATE_ELEMENTS);
-    if (state[PZ_STATE_ROOT_CLOSED]) return step(7, 0, 0);
+    depth = number_at(state, PZ_STATE_AT_DEPTH);
+    count = number_at(state, PZ_STATE_AT_ELEMENTS);
+    if (state[PZ_STATE_AT_ROOT_CLOSED]) return step(7, 0, 0);
     if (depth == 64 || count == 4096) return step(8, 0, 0);
-    presence = word_at(state, PZ_STATE_PRESENCE);
-    up = depth ? word_at(state, PZ_STATE_OPEN_WORDS + 8 * (depth - 1)) : 0;
-    left = bit(presence, depth) ? word_at(state, PZ_STATE_LAST_WORDS + 8 * depth) : 0;
+    presence = word_at(state, PZ_STATE_AT_PRESENCE);
+    up = depth ? word_at(state, PZ_STATE_AT_OPEN_WORDS + 8 * (depth - 1)) : 0;
+    left = bit(presence, depth) ? word_at(state, PZ_STATE_AT_LAST_WORDS + 8 * depth) : 0;
     for (i = 0; i < r.count; i++) {
         unsigned a = entries[i].a, b = entries[i].b;
         uint64_t x = 0;
@@ -264,25 +265,25 @@ struct pz_step plain_open(const uint8_t *rule, size_t rule_len, uint8_t *state, 
         }
         w |= x << i;
     }
-    put_word(state, PZ_STATE_OPEN_WORDS + 8 * depth, w);
-    if (depth < 63) put_word(state, PZ_STATE_PRESENCE, presence & ~((uint64_t)1 << (depth + 1)));
-    put_number(state, PZ_STATE_DEPTH, depth + 1);
-    put_number(state, PZ_STATE_ELEMENTS, count + 1);
+    put_word(state, PZ_STATE_AT_OPEN_WORDS + 8 * depth, w);
+    if (depth < 63) put_word(state, PZ_STATE_AT_PRESENCE, presence & ~((uint64_t)1 << (depth + 1)));
+    put_number(state, PZ_STATE_AT_DEPTH, depth + 1);
+    put_number(state, PZ_STATE_AT_ELEMENTS, count + 1);
     return step(0, 0, (uint32_t)bit(w, r.count - 1));
 }
 
-struct pz_step plain_close(const uint8_t *rule, size_t rule_len, uint8_t *state, size_t state_len)
+struct pz_step_reply plain_close(const uint8_t *rule, size_t rule_len, uint8_t *state, size_t state_len)
 {
     struct entry entries[64];
     struct answer r = begin(rule, rule_len, state, state_len, entries);
     unsigned depth;
     if (r.number) return step(r.number, r.place, 0);
-    depth = number_at(state, PZ_STATE_DEPTH);
+    depth = number_at(state, PZ_STATE_AT_DEPTH);
     if (depth == 0) return step(7, 0, 0);
     depth--;
-    put_word(state, PZ_STATE_LAST_WORDS + 8 * depth, word_at(state, PZ_STATE_OPEN_WORDS + 8 * depth));
-    put_word(state, PZ_STATE_PRESENCE, word_at(state, PZ_STATE_PRESENCE) | (uint64_t)1 << depth);
-    put_number(state, PZ_STATE_DEPTH, depth);
-    if (depth == 0) put_number(state, PZ_STATE_ROOT_CLOSED, 1);
+    put_word(state, PZ_STATE_AT_LAST_WORDS + 8 * depth, word_at(state, PZ_STATE_AT_OPEN_WORDS + 8 * depth));
+    put_word(state, PZ_STATE_AT_PRESENCE, word_at(state, PZ_STATE_AT_PRESENCE) | (uint64_t)1 << depth);
+    put_number(state, PZ_STATE_AT_DEPTH, depth);
+    if (depth == 0) put_number(state, PZ_STATE_AT_ROOT_CLOSED, 1);
     return step(0, 0, 0);
 }

@@ -267,13 +267,13 @@ static size_t write_test(struct writing *w, size_t at)
     }
 }
 
-static struct pz_written answer(uint32_t number, size_t place, size_t written)
+static struct pz_written_reply answer(uint32_t number, size_t place, size_t written)
 {
-    struct pz_written r = {number, (uint32_t)place, (uint32_t)written};
+    struct pz_written_reply r = {number, (uint32_t)place, (uint32_t)written};
     return r;
 }
 
-struct pz_written plain_read_path(const uint8_t *text, size_t text_len, uint8_t *rule, size_t rule_len)
+struct pz_written_reply plain_read_path(const uint8_t *text, size_t text_len, uint8_t *rule, size_t rule_len)
 {
     struct check c;
     struct writing w;

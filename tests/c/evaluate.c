@@ -13,7 +13,7 @@ static const uint64_t words_a[] = {1, 1, 27, 13, 1, 3};
 
 enum { MOST = 9, UNTOUCHED = 7777 };
 
-static int answers(struct pz_evaluation r, uint32_t number, uint32_t place, uint32_t elements, uint32_t selected)
+static int answers(struct pz_evaluation_reply r, uint32_t number, uint32_t place, uint32_t elements, uint32_t selected)
 {
     return r.number == number && r.place == place && r.elements == elements && r.selected == selected;
 }

@@ -37,7 +37,7 @@ int main(int argc, char **argv)
 {
     static uint8_t rule[PZ_RULE_BYTES];
     for (const struct form *f = forms; argc == 4 && f < forms + sizeof forms / sizeof *forms; f++) {
-        struct pz_written answer;
+        struct pz_written_reply answer;
         if (strcmp(f->name, argv[1]) != 0) continue;
         add(f->first);
         times((size_t)atoi(argv[2]), f->opening);

@@ -16,23 +16,23 @@ static const uint32_t tags[] = {1, 10, 20, 0, 30, 0, 0, 10, 20, 0, 0, 0};
 
 static uint8_t state[PZ_STATE_BYTES + 1];
 
-static int step(struct pz_step r, uint32_t number, uint32_t place, uint32_t verdict)
+static int step(struct pz_step_reply r, uint32_t number, uint32_t place, uint32_t verdict)
 {
     return r.number == number && r.place == place && r.verdict == verdict;
 }
 
-static struct pz_step opening(uint32_t label)
+static struct pz_step_reply opening(uint32_t label)
 {
     return pz_open(rule_b, sizeof rule_b, state, PZ_STATE_BYTES, label);
 }
 
-static struct pz_step closing(void)
+static struct pz_step_reply closing(void)
 {
     return pz_close(rule_b, sizeof rule_b, state, PZ_STATE_BYTES);
 }
 
 /* A refused call, which has to leave the state as it was. */
-static void refused(const char *what, struct pz_step (*call)(void), uint32_t number)
+static void refused(const char *what, struct pz_step_reply (*call)(void), uint32_t number)
 {
     uint8_t before[sizeof state];
     memcpy(before, state, sizeof state);
@@ -40,13 +40,13 @@ static void refused(const char *what, struct pz_step (*call)(void), uint32_t num
     check(memcmp(before, state, sizeof state) == 0, what);
 }
 
-static struct pz_step label_0(void) { return opening(0); }
-static struct pz_step label_1000(void) { return opening(1000); }
-static struct pz_step label_65537(void) { return opening(65537); }
-static struct pz_step label_1(void) { return opening(1); }
-static struct pz_step ahead(void) { return pz_open(rule_ahead, sizeof rule_ahead, state, PZ_STATE_BYTES, 1); }
-static struct pz_step shorter(void) { return pz_open(rule_b, sizeof rule_b, state, PZ_STATE_BYTES - 1, 1); }
-static struct pz_step longer(void) { return pz_open(rule_b, sizeof rule_b, state, sizeof state, 1); }
+static struct pz_step_reply label_0(void) { return opening(0); }
+static struct pz_step_reply label_1000(void) { return opening(1000); }
+static struct pz_step_reply label_65537(void) { return opening(65537); }
+static struct pz_step_reply label_1(void) { return opening(1); }
+static struct pz_step_reply ahead(void) { return pz_open(rule_ahead, sizeof rule_ahead, state, PZ_STATE_BYTES, 1); }
+static struct pz_step_reply shorter(void) { return pz_open(rule_b, sizeof rule_b, state, PZ_STATE_BYTES - 1, 1); }
+static struct pz_step_reply longer(void) { return pz_open(rule_b, sizeof rule_b, state, sizeof state, 1); }
 
 static void begin(void)
 {
@@ -67,7 +67,7 @@ static void whole_report(void)
 {
     uint64_t marks[6];
     struct pz_counts tally = {0, 0, 0};
-    struct pz_evaluation e = pz_evaluate(rule_b, sizeof rule_b, report_r, sizeof report_r, marks, 6);
+    struct pz_evaluation_reply e = pz_evaluate(rule_b, sizeof rule_b, report_r, sizeof report_r, marks, 6);
     uint32_t element = 0;
     check(e.number == 0 && e.elements == 6 && e.selected == 1, "rule B on report R");
     begin();
@@ -76,7 +76,7 @@ static void whole_report(void)
         if (tags[i] == 0) {
             check(step(closing(), 0, 0, 0), "a closing");
         } else {
-            struct pz_step r = opening(tags[i]);
+            struct pz_step_reply r = opening(tags[i]);
             check(step(r, 0, 0, (uint32_t)(marks[element] >> 4 & 1)), "one pass gives the evaluator's verdict");
             check(pz_tally(&tally, r.verdict) == 0, "the tally takes it");
             element++;
@@ -115,21 +115,21 @@ static void not_reached(void)
 {
     uint8_t expected[PZ_STATE_BYTES];
     begin();
-    memset(state + PZ_STATE_PRESENCE, 0xFF, PZ_STATE_BYTES - PZ_STATE_PRESENCE);
-    state[PZ_STATE_DEPTH] = 2;
-    state[PZ_STATE_ELEMENTS] = 9;
+    memset(state + PZ_STATE_AT_PRESENCE, 0xFF, PZ_STATE_BYTES - PZ_STATE_AT_PRESENCE);
+    state[PZ_STATE_AT_DEPTH] = 2;
+    state[PZ_STATE_AT_ELEMENTS] = 9;
     memcpy(expected, state, sizeof expected);
     /* Both words are all ones: 9(0) and 7(1) hold, and label 20; so entries 1, 2, 3 and 4 hold and 0 does not. */
     check(step(opening(20), 0, 0, 1), "the table decides on a state that no walk reaches");
-    expected[PZ_STATE_DEPTH] = 3;
-    expected[PZ_STATE_ELEMENTS] = 10;
-    expected[PZ_STATE_PRESENCE] = 0xF7;
-    memset(expected + PZ_STATE_OPEN_WORDS + 2 * 8, 0, 8);
-    expected[PZ_STATE_OPEN_WORDS + 2 * 8] = 30;
+    expected[PZ_STATE_AT_DEPTH] = 3;
+    expected[PZ_STATE_AT_ELEMENTS] = 10;
+    expected[PZ_STATE_AT_PRESENCE] = 0xF7;
+    memset(expected + PZ_STATE_AT_OPEN_WORDS + 2 * 8, 0, 8);
+    expected[PZ_STATE_AT_OPEN_WORDS + 2 * 8] = 30;
     check(memcmp(expected, state, sizeof expected) == 0, "what the opening wrote, and nothing else");
     check(step(closing(), 0, 0, 0), "a closing in it");
-    expected[PZ_STATE_DEPTH] = 2;
-    memcpy(expected + PZ_STATE_LAST_WORDS + 2 * 8, expected + PZ_STATE_OPEN_WORDS + 2 * 8, 8);
+    expected[PZ_STATE_AT_DEPTH] = 2;
+    memcpy(expected + PZ_STATE_AT_LAST_WORDS + 2 * 8, expected + PZ_STATE_AT_OPEN_WORDS + 2 * 8, 8);
     check(memcmp(expected, state, sizeof expected) == 0, "what the closing wrote, and nothing else");
 }
 
@@ -137,33 +137,33 @@ static void not_reached(void)
 static void bad_pairs(void)
 {
     begin();
-    state[PZ_STATE_DEPTH] = 65;
-    state[PZ_STATE_ELEMENTS] = 65;
+    state[PZ_STATE_AT_DEPTH] = 65;
+    state[PZ_STATE_AT_ELEMENTS] = 65;
     refused("depth 65", label_1, 11);
     refused("depth 65, closing", closing, 11);
     begin();
     check(step(opening(1), 0, 0, 0), "the root");
-    state[PZ_STATE_ROOT_CLOSED] = 1;
+    state[PZ_STATE_AT_ROOT_CLOSED] = 1;
     refused("root closed while it is open", label_1, 11);
     refused("root closed while it is open, closing", closing, 11);
     begin();
-    state[PZ_STATE_ELEMENTS + 1] = 16;
-    state[PZ_STATE_ELEMENTS] = 1;
+    state[PZ_STATE_AT_ELEMENTS + 1] = 16;
+    state[PZ_STATE_AT_ELEMENTS] = 1;
     refused("4,097 elements", label_1, 11);
     refused("a state one byte shorter", shorter, 11);
 }
 
 int main(void)
 {
-    struct pz_step r;
+    struct pz_step_reply r;
     whole_report();
     limits();
-    bad(PZ_STATE_DEPTH, 1, "depth above elements");
-    bad(PZ_STATE_ROOT_CLOSED, 2, "root closed 2");
-    bad(PZ_STATE_ROOT_CLOSED + 1, 1, "byte 5 set");
+    bad(PZ_STATE_AT_DEPTH, 1, "depth above elements");
+    bad(PZ_STATE_AT_ROOT_CLOSED, 2, "root closed 2");
+    bad(PZ_STATE_AT_ROOT_CLOSED + 1, 1, "byte 5 set");
     bad(6, 1, "byte 6 set");
     bad(7, 1, "byte 7 set");
-    bad(PZ_STATE_ELEMENTS + 1, 17, "elements above 4,096");
+    bad(PZ_STATE_AT_ELEMENTS + 1, 17, "elements above 4,096");
     bad_pairs();
     not_reached();
     r = pz_start(NULL, 0);

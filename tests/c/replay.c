@@ -176,9 +176,9 @@ static void call(uint32_t reply[4], const uint8_t *lent_rule, const uint8_t *len
 {
     struct pz_rule_reply a;
     struct pz_report_reply b;
-    struct pz_evaluation e;
-    struct pz_written w;
-    struct pz_step s = {0, 0, 0};
+    struct pz_evaluation_reply e;
+    struct pz_written_reply w;
+    struct pz_step_reply s = {0, 0, 0};
     memset(reply, 0, 4 * sizeof reply[0]);
     switch (function) {
     case 1:

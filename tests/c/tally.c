@@ -34,9 +34,9 @@ static void counted(const char *what, struct pz_counts before, uint32_t verdict,
 /* Refused by each kind of verdict. */
 static void refused(const char *what, struct pz_counts tally)
 {
-    count(what, tally, 0, PZ_TALLY, tally);
-    count(what, tally, 1, PZ_TALLY, tally);
-    count(what, tally, MOST, PZ_TALLY, tally);
+    count(what, tally, 0, PZ_TALLY_BAD, tally);
+    count(what, tally, 1, PZ_TALLY_BAD, tally);
+    count(what, tally, MOST, PZ_TALLY_BAD, tally);
 }
 
 int main(void)

@@ -103,7 +103,7 @@ static uint8_t filled(size_t i)
     return (uint8_t)(0xA5 ^ i);
 }
 
-static int is(struct pz_written r, uint32_t number, uint32_t place, size_t written)
+static int is(struct pz_written_reply r, uint32_t number, uint32_t place, size_t written)
 {
     return r.number == number && r.place == place && r.written == written;
 }
@@ -125,7 +125,7 @@ static void call_at(uint8_t *t, uint8_t *buffer, size_t room, uint32_t number, u
         memcpy(t, text.at, text.size);
     for (size_t i = 0; i < room; i++)
         buffer[i] = filled(i);
-    struct pz_written r = pz_read_path(t, text.size, buffer, room);
+    struct pz_written_reply r = pz_read_path(t, text.size, buffer, room);
     snprintf(what, sizeof what, "'%.*s', %zu bytes, room %zu: %u at %u, %u written; expected %u at %u, %zu",
              text.size < 50 ? (int)text.size : 50, (const char *)text.at, text.size, room, (unsigned)r.number,
              (unsigned)r.place, (unsigned)r.written, (unsigned)number, (unsigned)place, n);
@@ -198,7 +198,7 @@ static void selects(uint32_t entries, unsigned selected)
 {
     uint8_t own[PZ_RULE_BYTES];
     uint64_t marks[6];
-    struct pz_written r = pz_read_path(text.at, text.size, own, sizeof own);
+    struct pz_written_reply r = pz_read_path(text.at, text.size, own, sizeof own);
     struct pz_rule_reply read = pz_read_rule(own, r.written);
     check(read.number == 0 && read.entries == entries, "the rule reader takes what was written");
     check(pz_evaluate(own, r.written, report_r, sizeof report_r, marks, 6).number == 0, "the evaluator takes it");
@@ -430,7 +430,7 @@ static void beside_a_text(void)
             begin(whole);
             text.at[at] = (uint8_t)value;
             memcpy(guarded[0] + ROOM - size, text.at, size);
-            struct pz_written r = pz_read_path(guarded[0] + ROOM - size, size, buffer, sizeof buffer);
+            struct pz_written_reply r = pz_read_path(guarded[0] + ROOM - size, size, buffer, sizeof buffer);
             if (value == whole[at] || other_label(whole, at, value))
                 check(is(r, TAKEN, 0, r.written) && r.written > 0, "the same text, or another label");
             else
@@ -445,7 +445,7 @@ enum { STACK = 1 << 20, STACK_MOST = 256 * 1024, PAINT = 0x5A };
 static uint8_t *stack;
 static size_t deepest;
 static ucontext_t caller, callee;
-static struct pz_written reply;
+static struct pz_written_reply reply;
 static uint8_t written_rule[PZ_RULE_BYTES];
 
 static void make_stack(void)
@@ -531,7 +531,7 @@ static void stacks(void)
 int main(void)
 {
     make_rooms();
-    check(sizeof(struct pz_written) == 12, "three numbers and nothing between them");
+    check(sizeof(struct pz_written_reply) == 12, "three numbers and nothing between them");
     table();
     sixty_four_entries();
     longest_text();

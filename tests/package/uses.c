@@ -34,8 +34,8 @@ static void typed(void)
     uint8_t bytes[PZ_RULE_BYTES];
     uint64_t marks[6];
     size_t i;
-    struct pz_evaluation e;
-    struct pz_written w;
+    struct pz_evaluation_reply e;
+    struct pz_written_reply w;
     memset(bytes, 255, sizeof bytes);
     w = pz_read_path((const uint8_t *)wrong, sizeof wrong - 1, bytes, sizeof bytes);
     check(w.number == PZ_TEXT_BAD && w.place == 23 && w.written == 0, "a text that is wrong at byte 23");
@@ -55,10 +55,10 @@ static void typed(void)
 static void whole(void)
 {
     uint64_t marks[7];
-    struct pz_evaluation e;
+    struct pz_evaluation_reply e;
     memset(marks, 255, sizeof marks);
     e = pz_evaluate(rule, sizeof rule, report_r, sizeof report_r, marks, 5);
-    check(e.number == PZ_MARKS_SHORT && e.place == 0 && e.elements == 0 && e.selected == 0, "too few words");
+    check(e.number == PZ_BUFFER_SHORT && e.place == 0 && e.elements == 0 && e.selected == 0, "too few words");
     check(marks[0] == UINT64_MAX && marks[4] == UINT64_MAX, "a refusal writes no mark");
     e = pz_evaluate(rule, sizeof rule, report_r, sizeof report_r, marks, 7);
     check(e.number == PZ_ACCEPTED && e.place == 0 && e.elements == 6 && e.selected == 1, "the evaluation");
@@ -72,12 +72,12 @@ static void one_pass(void)
     uint8_t state[PZ_STATE_BYTES], saved[PZ_STATE_BYTES];
     struct pz_counts tally = {0, 0, 0};
     size_t i, element = 0;
-    struct pz_step step = pz_start(state, sizeof state);
-    check(step.number == PZ_ACCEPTED && state[PZ_STATE_DEPTH] == 0, "the start");
+    struct pz_step_reply step = pz_start(state, sizeof state);
+    check(step.number == PZ_ACCEPTED && state[PZ_STATE_AT_DEPTH] == 0, "the start");
     step = pz_start(state, sizeof state - 1);
     check(step.number == PZ_STATE_BAD && step.verdict == 0, "a state that is too short");
     step = pz_open(ahead, sizeof ahead, state, sizeof state, 1);
-    check(step.number == PZ_LOOKS_AHEAD && step.verdict == 0, "a rule that looks ahead");
+    check(step.number == PZ_RULE_AHEAD && step.verdict == 0, "a rule that looks ahead");
     for (i = 0; i < sizeof tags / sizeof tags[0]; i++) {
         memcpy(saved, state, sizeof state);
         memset(state, 255, sizeof state);
@@ -93,12 +93,12 @@ static void one_pass(void)
             element++;
         }
     }
-    check(state[PZ_STATE_ROOT_CLOSED] == 1 && state[PZ_STATE_ELEMENTS] == 6, "the state at the end");
+    check(state[PZ_STATE_AT_ROOT_CLOSED] == 1 && state[PZ_STATE_AT_ELEMENTS] == 6, "the state at the end");
     step = pz_close(rule, sizeof rule, state, sizeof state);
     check(step.number == PZ_REPORT_ORDER && step.verdict == 0, "a closing too many");
     check(tally.seen == 6 && tally.selected == 1 && tally.passed_over == 5, "the tally");
     tally.seen = 7;
-    check(pz_tally(&tally, 1) == PZ_TALLY && tally.seen == 7 && tally.selected == 1, "a tally out of balance");
+    check(pz_tally(&tally, 1) == PZ_TALLY_BAD && tally.seen == 7 && tally.selected == 1, "a tally out of balance");
 }
 
 int main(void)

@@ -1,5 +1,5 @@
-//! The exported functions by the implementation of this folder. `slips` plants slips in a copy of that implementation
-//! and sees that the comparison, linked with this archive, reports each.
+//! The exported functions by the implementation of this folder. `plant-slips` plants slips in a copy of that
+//! implementation and sees that the comparison, linked with this library, reports each.
 
 use outside::cause::Reply;
 use outside::tally::Tally;

@@ -103,7 +103,6 @@ fn field(number: u16) -> [u8; 2] {
 
 /// A rule refused by each of the numbers 1 to 4, one that looks ahead in an entry that the last one does not use, and
 /// one that is accepted everywhere.
-#[cfg(any(feature = "evaluate", feature = "onepass"))]
 pub fn rules_by_number() -> Vec<Vec<u8>> {
     let mut rules = vec![vec![], vec![0; 513], rule_bytes(&[TRUE, entry(15, 0, 0)])];
     rules.push(rule_bytes(&[TRUE, entry(3, 1, 0)]));

@@ -9,10 +9,6 @@ mod c {
     extern "C" {
         pub fn pz_read_rule(rule: *const u8, rule_len: usize) -> Reply;
         pub fn pz_read_report(report: *const u8, report_len: usize) -> Reply;
-    }
-
-    #[cfg(feature = "evaluate")]
-    extern "C" {
         pub fn pz_evaluate(
             rule: *const u8,
             rule_len: usize,
@@ -21,22 +17,10 @@ mod c {
             marks: *mut u64,
             words: usize,
         ) -> outside::whole::WholeReply;
-    }
-
-    #[cfg(feature = "onepass")]
-    extern "C" {
         pub fn pz_start(state: *mut u8, state_len: usize) -> Reply;
         pub fn pz_open(rule: *const u8, rule_len: usize, state: *mut u8, state_len: usize, label: u32) -> Reply;
         pub fn pz_close(rule: *const u8, rule_len: usize, state: *mut u8, state_len: usize) -> Reply;
-    }
-
-    #[cfg(feature = "tally")]
-    extern "C" {
         pub fn pz_tally(tally: *mut outside::tally::Tally, verdict: u32) -> u32;
-    }
-
-    #[cfg(feature = "typing")]
-    extern "C" {
         pub fn pz_read_path(text: *const u8, text_len: usize, rule: *mut u8, rule_len: usize) -> Reply;
     }
 }
@@ -51,35 +35,29 @@ pub fn read_report(report: &Lent<u8>) -> Reply {
     unsafe { c::pz_read_report(report.pointer(), report.len()) }
 }
 
-#[cfg(feature = "evaluate")]
 pub fn evaluate(rule: &Lent<u8>, report: &Lent<u8>, marks: &mut Lent<u64>) -> outside::whole::WholeReply {
     let words = marks.len();
     unsafe { c::pz_evaluate(rule.pointer(), rule.len(), report.pointer(), report.len(), marks.pointer_mut(), words) }
 }
 
-#[cfg(feature = "onepass")]
 pub fn start(state: &mut Lent<u8>) -> Reply {
     unsafe { c::pz_start(state.pointer_mut(), state.len()) }
 }
 
-#[cfg(feature = "onepass")]
 pub fn open(rule: &Lent<u8>, state: &mut Lent<u8>, label: u32) -> Reply {
     unsafe { c::pz_open(rule.pointer(), rule.len(), state.pointer_mut(), state.len(), label) }
 }
 
-#[cfg(feature = "onepass")]
 pub fn close(rule: &Lent<u8>, state: &mut Lent<u8>) -> Reply {
     unsafe { c::pz_close(rule.pointer(), rule.len(), state.pointer_mut(), state.len()) }
 }
 
 /// `tally` has three numbers: seen, selected, passed over.
-#[cfg(feature = "tally")]
 pub fn tally(tally: &mut Lent<u32>, verdict: u32) -> u32 {
     assert_eq!(tally.len(), 3);
     unsafe { c::pz_tally(tally.pointer_mut().cast(), verdict) }
 }
 
-#[cfg(feature = "typing")]
 pub fn read_path(text: &Lent<u8>, rule: &mut Lent<u8>) -> Reply {
     unsafe { c::pz_read_path(text.pointer(), text.len(), rule.pointer_mut(), rule.len()) }
 }

@@ -61,7 +61,6 @@ impl Lent<u8> {
     }
 
     /// A text at any alignment. The guards are noise, or would go on with a text or end it.
-    #[cfg(feature = "typing")]
     pub fn text(random: &mut Random, content: &[u8]) -> Lent<u8> {
         Lent::among(random, content, &[&[0], b" ", b"0", b"9", b"e", b">", b")", b"*", b"/left", b"true", b" or true)"])
     }

@@ -13,24 +13,16 @@ mod edges;
 mod exported;
 mod inputs;
 mod kept;
-// The readers by themselves write nothing to what they are lent.
-#[cfg_attr(not(all(feature = "evaluate", feature = "onepass", feature = "tally")), allow(dead_code))]
 mod lent;
-#[cfg(feature = "onepass")]
 mod one_pass;
 mod program;
 mod random;
 mod readers;
 mod run;
-#[cfg(feature = "tally")]
 mod tally;
-#[cfg(feature = "typing")]
 mod text_edges;
-#[cfg(feature = "typing")]
 mod texts;
-#[cfg(feature = "typing")]
 mod typing;
-#[cfg(feature = "evaluate")]
 mod whole;
 
 use calls::Call;
@@ -51,39 +43,20 @@ type Family = fn(&mut Run, &mut Random);
 const FAMILIES: &[Family] = &[
     readers::rule_input,
     readers::report_input,
-    #[cfg(feature = "evaluate")]
     whole::input,
-    #[cfg(feature = "evaluate")]
     whole::input,
-    #[cfg(feature = "onepass")]
     one_pass::walk_input,
-    #[cfg(feature = "onepass")]
     one_pass::state_input,
-    #[cfg(feature = "onepass")]
     one_pass::state_input,
-    #[cfg(feature = "tally")]
     tally::input,
-    #[cfg(feature = "typing")]
     typing::input,
-    #[cfg(feature = "typing")]
     typing::input,
 ];
 
-/// The calls that this build compares.
+/// The calls that are compared.
 fn calls(with_program: bool) -> Vec<Call> {
-    let mut calls = vec![Call::ReadRule, Call::ReadReport];
-    if cfg!(feature = "evaluate") {
-        calls.push(Call::Evaluate);
-    }
-    if cfg!(feature = "onepass") {
-        calls.extend([Call::Start, Call::Open, Call::Close]);
-    }
-    if cfg!(feature = "tally") {
-        calls.push(Call::Tally);
-    }
-    if cfg!(feature = "typing") {
-        calls.push(Call::ReadPath);
-    }
+    let mut calls = vec![Call::ReadRule, Call::ReadReport, Call::Evaluate, Call::Start, Call::Open, Call::Close];
+    calls.extend([Call::Tally, Call::ReadPath]);
     if with_program {
         calls.push(Call::Program);
     }
@@ -98,17 +71,12 @@ fn fixed_inputs(run: &mut Run, random: &mut Random) {
     for report in edges::reports().iter().chain(&edges::swept_reports()) {
         readers::compare_report(run, random, report);
     }
-    #[cfg(feature = "evaluate")]
     fixed_whole_reports(run, random);
-    #[cfg(feature = "onepass")]
     fixed_walks(run, random);
-    #[cfg(feature = "onepass")]
     one_pass::orders(run, random);
-    #[cfg(feature = "typing")]
     typing::fixed_inputs(run, random);
 }
 
-#[cfg(feature = "evaluate")]
 fn fixed_whole_reports(run: &mut Run, random: &mut Random) {
     whole::fixed_inputs(run, random);
     let sample = edges::sample_report();
@@ -124,7 +92,6 @@ fn fixed_whole_reports(run: &mut Run, random: &mut Random) {
     }
 }
 
-#[cfg(feature = "onepass")]
 fn fixed_walks(run: &mut Run, random: &mut Random) {
     use outside::records::{looks_ahead, read_report, read_rule};
     for rule in edges::rules() {
