@@ -13,7 +13,7 @@ use lib.Seq.{take-append-seam}
 use Rattle.records.specs.Answer.{countOf, placeOf}
 use Rattle.records.specs.Rule.{ruleAnswer}
 use Rattle.records.specs.Report.{reportAnswer}
-use Rattle.records.specs.Tables.{EntriesFilled, EntriesTaken, ElementsTaken, entriesOf, labelsOf, levelsOf, over, kindOf, aOf, bOf}
+use Rattle.records.specs.Tables.{EntriesTaken, ElementsTaken, entriesOf, labelsOf, levelsOf, over, kindOf, aOf, bOf}
 use Rattle.records.specs.declared.answer.Answer.{Answer}
 use Rattle.records.specs.declared.answer.Answer.the-variants.{Accepted, Refused}
 use Rattle.records.specs.declared.rule.Entry.{Entry}
@@ -177,40 +177,30 @@ pub record EntriesRead (rule : List ℕ) (n : ℕ) (ks fs ss : List ℕ) : Type 
   pub table-read : tableOf n ks fs ss ≡ entriesOf rule
   pub table-rule : RuleEntries (tableOf n ks fs ss)
 
-entries-held : (rule kinds firsts seconds : List ℕ) {r : Answer} {n : ℕ} {ks fs ss : List ℕ}
+pub entries-read : (rule kinds firsts seconds : List ℕ) {r : Answer} {n : ℕ} {ks fs ss : List ℕ}
     → length kinds ≡ 64 → length firsts ≡ 64 → length seconds ≡ 64
-    → EntriesFilled rule kinds firsts seconds r ks fs ss → r ≡ Accepted n → EntriesRead rule n ks fs ss
-entries-held rule kinds firsts seconds {r} {n} {ks} {fs} {ss} a b c f e =
+    → EntriesTaken rule kinds firsts seconds r ks fs ss → r ≡ Accepted n → EntriesRead rule n ks fs ss
+entries-read rule kinds firsts seconds {r} {n} {ks} {fs} {ss} a b c f e =
     let is : Accepted n ≡ ruleAnswer rule = sym e ∙ f .answer in
+    let all = entries-taken-all rule n is in
+    let kinds-are : ks ≡ over (map kindOf (entriesOf rule)) kinds = rw all at (f .kinds-are) in
+    let firsts-are : fs ≡ over (map aOf (entriesOf rule)) firsts = rw all at (f .firsts-are) in
+    let seconds-are : ss ≡ over (map bOf (entriesOf rule)) seconds = rw all at (f .seconds-are) in
     let le : length (entriesOf rule) ≡ n = entries-count rule ∙ ap countOf (sym is) in
     let few : n ≤ 64 = omega (arith, entries-few rule) in
     let whole : RuleEntries (entriesOf rule) =
     record { nonempty = omega (arith, entries-some rule n (sym is)); few = entries-few rule; formed = entry-formed rule } in
     let table : tableOf n ks fs ss ≡ entriesOf rule =
-    rw (f .kinds-are, f .firsts-are, f .seconds-are, ← le)
+    rw (kinds-are, firsts-are, seconds-are, ← le)
     (table-of-columns (entriesOf rule) kinds firsts seconds (omega arith) (omega arith) (omega arith)) in
     record {
       is = is;
-      kinds-room = omega (arith, filled-length (map kindOf (entriesOf rule)) kinds 64 (f .kinds-are) a);
-      firsts-room = omega (arith, filled-length (map aOf (entriesOf rule)) firsts 64 (f .firsts-are) b);
-      seconds-room = omega (arith, filled-length (map bOf (entriesOf rule)) seconds 64 (f .seconds-are) c);
+      kinds-room = omega (arith, filled-length (map kindOf (entriesOf rule)) kinds 64 kinds-are a);
+      firsts-room = omega (arith, filled-length (map aOf (entriesOf rule)) firsts 64 firsts-are b);
+      seconds-room = omega (arith, filled-length (map bOf (entriesOf rule)) seconds 64 seconds-are c);
       table-read = table;
       table-rule = subst RuleEntries (sym table) whole;
     }
-
-pub entries-read : (rule kinds firsts seconds : List ℕ) {r : Answer} {n : ℕ} {ks fs ss : List ℕ}
-    → length kinds ≡ 64 → length firsts ≡ 64 → length seconds ≡ 64
-    → EntriesTaken rule kinds firsts seconds r ks fs ss → r ≡ Accepted n → EntriesRead rule n ks fs ss
-entries-read rule kinds firsts seconds {r} {n} a b c f e =
-    let all = entries-taken-all rule n (sym e ∙ f .answer) in
-    entries-held rule kinds firsts seconds a b c (
-    record {
-      answer = f .answer;
-      kinds-are = f .kinds-are ∙ ap (λ (es : List Entry). over (map kindOf es) kinds) all;
-      firsts-are = f .firsts-are ∙ ap (λ (es : List Entry). over (map aOf es) firsts) all;
-      seconds-are = f .seconds-are ∙ ap (λ (es : List Entry). over (map bOf es) seconds) all;
-    }
-    ) e
 
 -- The place of a rule's refusal fits where a report's does.
 pub rule-place : (rule : List ℕ) → placeOf (ruleAnswer rule) ≤ 40960

@@ -6,7 +6,6 @@ use native.Mathlib.Omega.{arith}
 use native.Mathlib.Decide.{decLt}
 use borrow.Author.Tests.{ne-eqb}
 use mathlib.Core.Path.{_≡_, refl, sym, ap, _∙_}
-use mathlib.Core.Bool.{Bool}
 use mathlib.Core.List.{List, _++_}
 use mathlib.Core.Logic.{⊎-elim, inr}
 use lib.ListN.{length, getD, take, drop, length-drop, length-append, List·getD-append}

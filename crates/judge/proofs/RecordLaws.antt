@@ -3,30 +3,32 @@ use Prim.Native.Nat.{ℕ, zero, suc, pred, _+_, _-_, _≤_, _<_}
 use native.Mathlib.Omega.{arith}
 use borrow.Author.Tests.{le-ltb}
 use mathlib.Core.Path.{_≡_, refl, sym, ap, subst, _∙_}
-use mathlib.Core.Bool.{Bool, true, false, cond}
+use mathlib.Core.Bool.{Bool, cond}
 use mathlib.Core.List.{List, [], _∷_, _++_, flatten}
 use mathlib.Core.Logic.{⊎-elim}
-use lib.Dec.{ltb, eqb}
-use lib.ListN.{length, getD}
+use lib.Dec.{eqb}
+use lib.ListN.{length}
 use lib.Seq.{length-sets}
-use Rattle.records.specs.Answer.{countOf}
+use Rattle.records.specs.Answer.{countOf, Accepts}
 use Rattle.records.specs.Rule.{ruleAnswer}
 use Rattle.records.specs.Report.{reportAnswer}
-use Rattle.records.specs.Tables.{entriesOf, labelsOf, levelsOf, over}
+use Rattle.records.specs.Tables.{entriesOf, labelsOf, levelsOf, over, ElementsTaken}
 use Rattle.records.specs.declared.answer.Answer.{Answer}
 use Rattle.records.specs.declared.answer.Answer.the-variants.{Accepted, Refused}
 use Rattle.records.specs.Reply.{ruleReply}
 use Rattle.records.specs.declared.export.RuleReply.{RuleReply}
 use Rattle.records.proofs.TableLaws.{over-at}
+use Rattle.records.proofs.WalkLaws.{taken-lists}
 use Rattle.grammar.proofs.WhenRule.{rule-numbers}
+use Rattle.grammar.proofs.WhenReport.{report-numbers}
 use Rattle.grammar.proofs.Entries.{entries-count, entries-some}
 use Rattle.grammar.proofs.Elements.{elements-count, levels-elements, elements-few}
-use Rattle.meaning.specs.Marks.{bitAt, wordOf, verdict, selected}
+use Rattle.meaning.specs.Marks.{verdict, selected}
 use Rattle.meaning.proofs.Words.{pred-sub}
 use Rattle.evaluate.specs.Evaluation.{judged, evaluation, meantWords, Evaluated}
 use Rattle.evaluate.specs.declared.evaluate.Evaluation.{Evaluation}
 use Rattle.evaluate.proofs.Means.{counted, word-is}
-use Rattle.text.specs.Text.{lineOf, elementLines, acceptedLines, acceptedText, elementLine, headerLine, closingLine, refusedLine}
+use Rattle.text.specs.Text.{lineOf, elementLines, acceptedLines, acceptedText, headerLine, closingLine, refusedLine}
 use Rattle.text.specs.Rendered.{verdictIn, clamped, tableText, putAt, Rendered}
 use Rattle.judge.specs.Output.{room, acceptedRecord, toldAs, judgedRecord, AcceptedWith}
 
@@ -51,30 +53,34 @@ module _ (labels levels labels′ levels′ : List ℕ) (v v′ : ℕ → Bool) 
 
 -- ---- what number 0 says
 
--- Number 0 is given only where the rule is accepted.
-pub rule-accepted : (rule report : List ℕ) (room : ℕ) → evaluation rule report room .number ≡ 0 → (m : ℕ) × (ruleAnswer rule ≡ Accepted m)
+-- Number 0 is given only where the rule and the report are accepted.
+pub both-accepted : (rule report : List ℕ) (room : ℕ) → evaluation rule report room .number ≡ 0
+    → (m : ℕ) × (ruleAnswer rule ≡ Accepted m) × Accepts (reportAnswer report)
 unfolding evaluation judged
-rule-accepted rule report room z = go (ruleAnswer rule) refl z
+both-accepted rule report room z = go (ruleAnswer rule) (reportAnswer report) refl refl z
   where
-    none : (k : ℕ) → k ≡ 0 → 1 ≤ k → (m : ℕ) × (ruleAnswer rule ≡ Accepted m)
+    none : {P : Type 0} (k : ℕ) → k ≡ 0 → 1 ≤ k → P
     none k z h = absurd (omega arith)
 
-    go : (a : Answer) → ruleAnswer rule ≡ a
-        → judged a (reportAnswer report) room (selected (length (entriesOf rule)) (meantWords rule report)) .number ≡ 0
-        → (m : ℕ) × (ruleAnswer rule ≡ Accepted m)
-    go (Accepted m) f q = (m, f)
-    go (Refused k p) f q =
+    go : (a b : Answer) → ruleAnswer rule ≡ a → reportAnswer report ≡ b
+        → judged a b room (selected (length (entriesOf rule)) (meantWords rule report)) .number ≡ 0
+        → (m : ℕ) × (ruleAnswer rule ≡ Accepted m) × Accepts (reportAnswer report)
+    go (Accepted m) (Accepted n) f g q = (m, f, subst Accepts (sym g) tt)
+    go (Accepted m) (Refused k p) f g q =
+        none k q (⊎-elim (λ t. omega arith) (⊎-elim (λ t. omega arith) (⊎-elim (λ t. omega arith) (λ t. omega arith))) (report-numbers report k p g))
+    go (Refused k p) b f g q =
         none k q (⊎-elim (λ t. omega arith) (⊎-elim (λ t. omega arith) (⊎-elim (λ t. omega arith) (λ t. omega arith))) (rule-numbers rule k p f))
 
 -- What the evaluator has left where it gave number 0.
 pub accepted-with : (rule report marks after : List ℕ) (r : Evaluation) → Evaluated rule report marks r after → r .number ≡ 0
     → AcceptedWith rule report after (r .elements) (r .selected)
 accepted-with rule report marks after r e z =
-    let a = rule-accepted rule report (length marks) (ap (λ (x : Evaluation). x .number) (sym (e .answer)) ∙ z) in
+    let a = both-accepted rule report (length marks) (ap (λ (x : Evaluation). x .number) (sym (e .answer)) ∙ z) in
     let c = counted rule report marks r after e z in
     record {
       entries = a .0;
       rule-taken = a .1;
+      report-taken = a .2;
       marks-are = word-is rule report marks r after e z;
       elements-are = c .elements-are;
       chosen-are = c .selected-are;
@@ -101,10 +107,15 @@ unfolding clamped
 clamped-few n h = rw (le-ltb 4096 n h)
 
 module _ (rule report marks labels levels labels₁ levels₁ : List ℕ) (elements chosen last : ℕ)
-    (a : AcceptedWith rule report marks elements chosen)
-    (labels-are : labels₁ ≡ over (labelsOf report) labels) (levels-are : levels₁ ≡ over (levelsOf report) levels)
+    (a : AcceptedWith rule report marks elements chosen) {answer : Answer} (taken : ElementsTaken report labels levels answer labels₁ levels₁)
     (labels-long : length labels ≡ 4096) (levels-long : length levels ≡ 4096)
     (last-is : last ≡ pred (length (entriesOf rule))) where
+  labels-are : labels₁ ≡ over (labelsOf report) labels
+  labels-are = rw (taken-lists report (a .report-taken) .0) at (taken .labels-are)
+
+  levels-are : levels₁ ≡ over (levelsOf report) levels
+  levels-are = rw (taken-lists report (a .report-taken) .1) at (taken .levels-are)
+
   few : length (levelsOf report) ≤ 4096
   few = rw (levels-elements report) (elements-few report)
 

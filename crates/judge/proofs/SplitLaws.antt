@@ -1,5 +1,5 @@
 -- What the split of the input comes to, branch by branch. Assumes nothing.
-use Prim.Native.Nat.{ℕ, _+_, _-_, _≤_, _<_}
+use Prim.Native.Nat.{ℕ, _-_, _≤_, _<_}
 use native.Mathlib.Omega.{arith}
 use borrow.Author.Tests.{lt-ltb, le-ltb, ltb-false}
 use mathlib.Core.Path.{_≡_, refl, sym, ap, subst, _∙_}

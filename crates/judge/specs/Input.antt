@@ -2,7 +2,7 @@
 -- Shuts out: a length that counts its own two bytes; a rule that reaches past the input.
 -- Assumes nothing.
 use Prim.Native.Nat.{ℕ, _+_, _-_}
-use mathlib.Core.Bool.{Bool, true, false, cond}
+use mathlib.Core.Bool.{true, false, cond}
 use mathlib.Core.List.{List}
 use lib.Dec.{ltb}
 use lib.ListN.{length, take, drop}

@@ -8,7 +8,9 @@ use mathlib.Core.List.{List}
 use lib.Dec.{eqb}
 use lib.ListN.{length, getD}
 use Rattle.records.specs.Tables.{entriesOf, labelsOf, levelsOf}
+use Rattle.records.specs.Answer.{Accepts}
 use Rattle.records.specs.Rule.{ruleAnswer}
+use Rattle.records.specs.Report.{reportAnswer}
 use Rattle.records.specs.declared.answer.Answer.the-variants.{Accepted}
 use Rattle.meaning.specs.Marks.{wordOf, verdict, selected}
 use Rattle.evaluate.specs.Evaluation.{evaluation, meantWords}
@@ -46,6 +48,7 @@ recordOf s = splitRecord s (splitOf s)
 pub record AcceptedWith (rule report marks : List ℕ) (elements chosen : ℕ) : Type 0 where
   pub entries : ℕ
   pub rule-taken : ruleAnswer rule ≡ Accepted entries
+  pub report-taken : Accepts (reportAnswer report)
   pub marks-are : (k : ℕ) → k < length (levelsOf report) → getD marks k 0 ≡ wordOf (entriesOf rule) (levelsOf report) (labelsOf report) k
   pub elements-are : elements ≡ length (levelsOf report)
   pub chosen-are : chosen ≡ selected (length (entriesOf rule)) (meantWords rule report)

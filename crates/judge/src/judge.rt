@@ -8,7 +8,7 @@ ghost use Rattle.judge.specs.Output.{AcceptedWith, acceptedRecord, judge
 use crate::split::split;
 use evaluate::evaluate::pz_evaluate;
 use records::export::pz_read_rule;
-use records::tables::fill_elements;
+use records::tables::read_elements;
 use text::render::put_accepted;
 use text::render::put_refused;
 
@@ -26,7 +26,7 @@ fn put_marked(
 {
     let mut labels = [0u16; 4096];
     let mut levels = [0u16; 4096];
-    fill_elements(report, &mut labels, &mut levels);
+    read_elements(report, &mut labels, &mut levels);
     let last = pz_read_rule(rule).entries as usize - 1;
     put_accepted(out, &labels, &levels, marks, elements, last, selected)
 }

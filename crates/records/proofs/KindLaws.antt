@@ -3,11 +3,8 @@
 use Prim.Native.Nat.{ℕ, zero, suc, _+_, _≤_, _<_}
 use native.Mathlib.Omega.{arith}
 use native.Mathlib.Nat.{eq-or-lt-of-le}
-use borrow.Author.Tests.{le-leb, lt-leb, ne-eqb}
-use lib.ListN.{length, List·getD-eq-default}
-use mathlib.Core.Path.{_≡_, refl, ap, subst}
-use native.Mathlib.Decide.{decLt}
-use mathlib.Core.Bool.{true, false}
+use lib.ListN.{List·getD-eq-default}
+use mathlib.Core.Path.{_≡_, subst}
 use mathlib.Core.Logic.{⊎-elim}
 use Rattle.records.specs.Kinds.{table, noKind, rowOf}
 
@@ -26,12 +23,3 @@ each P lo (suc n) a k l h =
 pub row-none : (k : ℕ) → 14 < k → rowOf k ≡ noKind
 unfolding rowOf
 row-none k h = List·getD-eq-default table noKind {n = k} (omega arith)
-
--- What is none of the kinds has no row.
-pub row-other : (k : ℕ) → ((j : ℕ) → 1 ≤ j → j < 15 → k ≡ j → ⊥) → rowOf k ≡ noKind
-unfolding rowOf
-row-other k n = elim (decLt 14 k) [ yes h ↦ row-none k h | no h ↦ go k refl (omega arith) ]
-  where
-    go : (m : ℕ) → k ≡ m → m ≤ 14 → rowOf k ≡ noKind
-    go zero e l = ap rowOf e
-    go (suc m) e l = absurd (n (suc m) (omega arith) (omega arith) e)

@@ -7,9 +7,9 @@ use mathlib.Core.Bool.{Bool, false}
 use mathlib.Core.List.{List}
 use Rattle.records.specs.Kinds.{rowOf, leadsBack, shapeLooksBack}
 use Rattle.records.specs.Tags.{opens, closes, tagFault}
-use Rattle.records.specs.Rule.{ruleAnswer}
+use Rattle.records.specs.Rule.{ruleAnswer, takenAt}
 use Rattle.records.specs.Report.{reportAnswer}
-use Rattle.records.specs.Tables.{EntriesFilled, ElementsFilled}
+use Rattle.records.specs.Tables.{EntriesTaken, ElementsTaken}
 use Rattle.records.specs.Reply.{ruleReply, reportReply}
 use Rattle.records.specs.declared.answer.Answer.{Answer}
 use Rattle.records.specs.declared.export.RuleReply.{RuleReply}
@@ -17,6 +17,7 @@ use Rattle.records.specs.declared.export.ReportReply.{ReportReply}
 use Rattle.records.specs.declared.kind.Axis.{Axis}
 use Rattle.records.specs.declared.kind.Row.{Row}
 use Rattle.records.specs.declared.kind.Shape.{Shape}
+use Rattle.records.specs.declared.rule.Taken.{Taken}
 
 -- Two things that equal a third are equal.
 pub only : {A : Type 0} {x y z : A} → x ≡ z → y ≡ z → x ≡ y
@@ -60,21 +61,25 @@ pub pz-read-report-only : (s : List ℕ) {r r′ : ReportReply} → r ≡ report
     → r′ ≡ reportReply (reportAnswer s) → r ≡ r′
 pz-read-report-only s p q = only p q
 
--- What filling the entries' tables answers and leaves in them.
-pub fill-entries-only : (s kinds firsts seconds : List ℕ) {r r′ : Answer} {k k′ a a′ b b′ : List ℕ}
-    → EntriesFilled s kinds firsts seconds r k a b → EntriesFilled s kinds firsts seconds r′ k′ a′ b′
+-- What the record at an offset is taken for.
+pub take-entry-only : (s : List ℕ) (own at : ℕ) {r r′ : Taken} → r ≡ takenAt s own at → r′ ≡ takenAt s own at → r ≡ r′
+take-entry-only s own at p q = only p q
+
+-- What reading the entries answers and leaves in the tables.
+pub read-entries-only : (s kinds firsts seconds : List ℕ) {r r′ : Answer} {k k′ a a′ b b′ : List ℕ}
+    → EntriesTaken s kinds firsts seconds r k a b → EntriesTaken s kinds firsts seconds r′ k′ a′ b′
     → (r ≡ r′) × (k ≡ k′) × (a ≡ a′) × (b ≡ b′)
-fill-entries-only s kinds firsts seconds p q = (
+read-entries-only s kinds firsts seconds p q = (
   only (p .answer) (q .answer),
   only (p .kinds-are) (q .kinds-are),
   only (p .firsts-are) (q .firsts-are),
   only (p .seconds-are) (q .seconds-are),
 )
 
--- What filling the elements' tables answers and leaves in them.
-pub fill-elements-only : (s labels levels : List ℕ) {r r′ : Answer} {l l′ d d′ : List ℕ}
-    → ElementsFilled s labels levels r l d → ElementsFilled s labels levels r′ l′ d′ → (r ≡ r′) × (l ≡ l′) × (d ≡ d′)
-fill-elements-only s labels levels p q = (
+-- What reading the elements answers and leaves in the columns.
+pub read-elements-only : (s labels levels : List ℕ) {r r′ : Answer} {l l′ d d′ : List ℕ}
+    → ElementsTaken s labels levels r l d → ElementsTaken s labels levels r′ l′ d′ → (r ≡ r′) × (l ≡ l′) × (d ≡ d′)
+read-elements-only s labels levels p q = (
   only (p .answer) (q .answer),
   only (p .labels-are) (q .labels-are),
   only (p .levels-are) (q .levels-are),

@@ -1,21 +1,20 @@
 -- Laws of the report reader's definitions: one for each way through a record's tests, and the reader's progress.
 -- Assumes nothing.
-use Prim.Native.Nat.{ℕ, zero, suc, pred, _+_, _-_, _≤_, _<_}
+use Prim.Native.Nat.{ℕ, zero, suc, _+_, _-_, _≤_, _<_}
 use native.Mathlib.Omega.{arith}
 use native.Mathlib.Numerals.{add-one, sub-one}
-use borrow.Author.Tests.{lt-ltb, le-ltb, eq-eqb, ne-eqb, eqb-true, leb-false}
-use mathlib.Core.Path.{_≡_, refl, sym, ap, subst, _∙_}
+use borrow.Author.Tests.{lt-ltb, le-ltb, eq-eqb, ne-eqb, leb-false}
+use mathlib.Core.Path.{_≡_, refl, sym, ap, _∙_}
 use mathlib.Core.Bool.{Bool, true, false, cond, not, _||_, _&&_}
 use mathlib.Core.List.{List, [], _∷_, _++_}
 use lib.Dec.{leb, ltb, eqb}
 use lib.ListN.{length, length-append}
 use Rattle.records.specs.Bytes.{numberAt}
 use Rattle.records.specs.First.{first}
-use Rattle.records.specs.Frame.{frameOf, kindAt, broken, startOf}
+use Rattle.records.specs.Frame.{frameOf, kindAt, broken}
 use Rattle.records.specs.Tags.{Tag, opens, closes, depthFrom, depth, labels, opened, outside, tagFault}
 use Rattle.records.specs.Report.{reportLength, tagAt, tagsBefore, recordFault, reportFault, reportStops, endOf, reportEnd, reportAnswer}
-use Rattle.records.specs.declared.answer.Answer.{Answer}
-use Rattle.records.specs.declared.answer.Answer.the-variants.{Accepted, Refused}
+use Rattle.records.specs.declared.answer.Answer.the-variants.{Refused}
 use Rattle.records.specs.declared.frame.Frame.{Frame}
 use Rattle.records.specs.declared.frame.Frame.the-variants.{Whole, Cut, Garbled}
 use Rattle.records.proofs.TagLaws.{depth-append, labels-append}
@@ -54,9 +53,6 @@ module _ (s : List ℕ) (at : ℕ) where
     where
       four : reportLength (kindAt s at) ≡ 4
       four = rw (eq-eqb (kindAt s at) 1 e)
-
-  pub open-room : Whole ≡ frameOf s at (reportLength (kindAt s at)) → kindAt s at ≡ 1 → at + 6 ≤ length s
-  open-room w = label-room (whole-stands s at (reportLength (kindAt s at)) (sym w))
 
   module _ (depth elements : ℕ) where
     -- Fewer than 4 bytes left.

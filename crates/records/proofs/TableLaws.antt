@@ -1,16 +1,16 @@
 -- Laws of the tables: writing one place more of a lent list, and the turns of the fillers' loops.
 -- Assumes nothing.
-use Prim.Native.Nat.{ℕ, zero, suc, pred, _+_, _-_, _≤_, _<_}
+use Prim.Native.Nat.{ℕ, zero, suc, _+_, _-_, _≤_, _<_}
 use native.Mathlib.Omega.{arith}
 use native.Mathlib.Nat.{add-zero, zero-add}
 use native.Mathlib.Numerals.{add-one}
 use lib.Arith.{lt-of-le-ne}
-use borrow.Author.Tests.{le-ltb, lt-ltb, eqb-true, eqb-false}
+use borrow.Author.Tests.{eqb-true}
 use mathlib.Core.Path.{_≡_, refl, sym, ap, subst, _∙_}
 use mathlib.Core.Bool.{Bool, true, false, cond, _||_}
 use mathlib.Core.List.{List, [], _∷_, _++_, map, map-append, append-nil}
 use lib.Dec.{ltb, eqb}
-use lib.ListN.{length, getD, set, drop, length-append, length-drop, length-map, List·getD-append}
+use lib.ListN.{length, getD, set, drop, length-append, length-map, List·getD-append}
 use lib.Seq.{sets, length-sets, sets-eq, getD-append-add, getD-drop}
 use Rattle.records.specs.Bytes.{numberAt}
 use Rattle.records.specs.Answer.{Accepts, found}
@@ -18,15 +18,15 @@ use Rattle.records.specs.First.{first}
 use Rattle.records.specs.Frame.{kindAt, startOf, stopsAt}
 use Rattle.records.specs.Rule.{entryAt, ruleFault, ruleFaults, ruleStops, ruleEnd, ruleAnswer}
 use Rattle.records.specs.Report.{tagAt, tagsBefore, recordFault, reportFault, reportStops, endOf, reportEnd, reportAnswer, lastRecord, tagsOf}
-use Rattle.records.specs.Tags.{Tag, opens, closes, depthFrom, depth, labels, levelsFrom, levels, opened}
+use Rattle.records.specs.Tags.{depth, labels, levelsFrom, levels, opened}
 use Rattle.records.specs.Tables.{entriesBefore, entriesOf, labelsOf, levelsOf, over}
 use Rattle.records.specs.declared.answer.Answer.{Answer}
 use Rattle.records.specs.declared.answer.Answer.the-variants.{Accepted, Refused}
 use Rattle.records.specs.declared.rule.Entry.{Entry}
-use Rattle.records.proofs.First.{first-le, first-before, clash}
-use Rattle.records.proofs.Reading.{mid-ended, stops-not}
+use Rattle.records.proofs.First.{first-le, first-before}
+use Rattle.records.proofs.Reading.{stops-not}
 use Rattle.records.proofs.RuleLaws.{RuleMid}
-use Rattle.records.proofs.ReportLaws.{ReportMid, report-start, fault-is, tags-after, tag-opens, tag-closes}
+use Rattle.records.proofs.ReportLaws.{ReportMid, fault-is, tags-after, tag-opens, tag-closes}
 use Rattle.records.proofs.TagLaws.{labels-append, levels-append, levels-count}
 
 -- ---- a lent list with values in its first places
@@ -134,10 +134,6 @@ pub entries-taken : (s : List ℕ) (n : ℕ) → Accepted n ≡ ruleAnswer s →
 unfolding entriesOf
 entries-taken s n a = rw (← a)
 
-pub entries-refused : (s : List ℕ) (number place : ℕ) → Refused number place ≡ ruleAnswer s → entriesOf s ≡ []
-unfolding entriesOf entriesBefore
-entries-refused s number place a = rw (← a)
-
 -- ---- the elements of an accepted report
 
 found-accepted : (r : Answer) (xs : List ℕ) → Accepts r → found r xs ≡ xs
@@ -183,11 +179,6 @@ pub record ElementsMid (s labels₀ levels₀ labels₁ levels₁ : List ℕ) (i
   pub levels-are : levels₁ ≡ over (levels (tagsBefore s i)) levels₀
 
 module _ (s labels₀ levels₀ : List ℕ) where
-  pub elements-start : ElementsMid s labels₀ levels₀ labels₀ levels₀ 0 0 0 0
-  unfolding tagsBefore labels levelsFrom
-  elements-start =
-      record { mid = report-start s; along = omega arith; labels-are = sym (over-none labels₀); levels-are = sym (over-none levels₀) }
-
   module _ (taken : ReportTaken s) {labels₁ levels₁ : List ℕ} {i at d e : ℕ} (m : ElementsMid s labels₀ levels₀ labels₁ levels₁ i at d e) where
     -- Before the end of the report the record in hand is not the last stop, so it has no fault.
     pub elements-before : (at ≡ length s → ⊥) → i < lastRecord s
@@ -197,12 +188,6 @@ module _ (s labels₀ levels₀ : List ℕ) where
     pub elements-fine : (at ≡ length s → ⊥) → recordFault s at d e ≡ 0
     elements-fine ne =
         sym (fault-is s (m .mid)) ∙ stops-not s (reportFault s) i (taken .clean i (elements-before ne)) .1
-
-    -- At the end the columns hold every element.
-    pub elements-ended : at ≡ length s → i ≡ lastRecord s
-    unfolding reportStops
-    elements-ended q =
-        sym (mid-ended s (reportFault s) (m .mid .mid) q (length s) (omega (arith, m .mid .mid .slow, m .mid .mid .within)))
 
     module _ (ne : at ≡ length s → ⊥) where
       -- What an opening or a closing puts behind each column.
@@ -248,14 +233,6 @@ labels-taken s a = found-accepted (reportAnswer s) (labels (tagsOf s)) a
 pub levels-taken : (s : List ℕ) → Accepts (reportAnswer s) → levelsOf s ≡ levels (tagsOf s)
 unfolding levelsOf
 levels-taken s a = found-accepted (reportAnswer s) (levels (tagsOf s)) a
-
-pub labels-refused : (s : List ℕ) (number place : ℕ) → Refused number place ≡ reportAnswer s → labelsOf s ≡ []
-unfolding labelsOf
-labels-refused s number place a = rw (← a)
-
-pub levels-refused : (s : List ℕ) (number place : ℕ) → Refused number place ≡ reportAnswer s → levelsOf s ≡ []
-unfolding levelsOf
-levels-refused s number place a = rw (← a)
 
 -- A lent list into which nothing is put is as it was.
 pub over-kept : (xs lent : List ℕ) → xs ≡ [] → lent ≡ over xs lent

@@ -1,6 +1,6 @@
 -- Laws of the walk that checks a report and fills the columns of its elements at once: what it knows between two turns, whatever the
 -- report is answered in the end. Assumes nothing.
-use Prim.Native.Nat.{ℕ, zero, suc, _+_, _*_, _≤_, _<_}
+use Prim.Native.Nat.{ℕ, _+_, _*_, _≤_, _<_}
 use native.Mathlib.Omega.{arith}
 use native.Mathlib.Numerals.{add-one}
 use borrow.Author.Tests.{lt-ltb, le-ltb, eqb-true, eqb-false}
@@ -15,8 +15,8 @@ use Rattle.records.specs.Frame.{kindAt, startOf}
 use Rattle.records.specs.Rule.{entryAt, ruleFault, ruleFaults, ruleStops, ruleEnd, ruleAnswer}
 use Rattle.records.specs.declared.answer.Answer.{Answer}
 use Rattle.records.specs.declared.rule.Entry.{Entry}
-use Rattle.records.specs.Report.{reportLength, tagAt, tagsBefore, recordFault, reportFault, reportStops, endOf, reportEnd, reportAnswer, lastRecord, tagsOf}
-use Rattle.records.specs.Tags.{Tag, labels, levelsFrom, levels}
+use Rattle.records.specs.Report.{tagAt, tagsBefore, recordFault, reportFault, reportStops, endOf, reportEnd, reportAnswer, lastRecord, tagsOf}
+use Rattle.records.specs.Tags.{labels, levelsFrom, levels}
 use Rattle.records.specs.Tables.{over, labelsOf, levelsOf, tagsRead, entriesBefore, entriesOf, entriesRead, EntriesTaken, kindOf, aOf, bOf}
 use Rattle.records.specs.Answer.{Accepts, countOf}
 use Rattle.records.specs.declared.answer.Answer.the-variants.{Accepted, Refused}

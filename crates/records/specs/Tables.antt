@@ -51,13 +51,6 @@ aOf e = e .a
 abbrev pub bOf : Entry → ℕ
 bOf e = e .b
 
--- What filling the entries' tables answers and leaves in them. A refused rule has no entries, so it leaves all as it was.
-pub record EntriesFilled (s kinds firsts seconds : List ℕ) (r : Answer) (kinds′ firsts′ seconds′ : List ℕ) : Type 0 where
-  pub answer : r ≡ ruleAnswer s
-  pub kinds-are : kinds′ ≡ over (map kindOf (entriesOf s)) kinds
-  pub firsts-are : firsts′ ≡ over (map aOf (entriesOf s)) firsts
-  pub seconds-are : seconds′ ≡ over (map bOf (entriesOf s)) seconds
-
 -- The tags up to where reading stops; a report of no byte or of too many is not read.
 unfoldable pub tagsRead : List ℕ → List Tag
 tagsRead s = cond (ltb (length s) 1 || ltb 40960 (length s)) [] (tagsOf s)
@@ -76,9 +69,3 @@ pub record EntriesTaken (s kinds firsts seconds : List ℕ) (r : Answer) (kinds�
   pub kinds-are : kinds′ ≡ over (map kindOf (entriesRead s)) kinds
   pub firsts-are : firsts′ ≡ over (map aOf (entriesRead s)) firsts
   pub seconds-are : seconds′ ≡ over (map bOf (entriesRead s)) seconds
-
--- What filling the elements' tables answers and leaves in them. A refused report has no elements.
-pub record ElementsFilled (s labels levels : List ℕ) (r : Answer) (labels′ levels′ : List ℕ) : Type 0 where
-  pub answer : r ≡ reportAnswer s
-  pub labels-are : labels′ ≡ over (labelsOf s) labels
-  pub levels-are : levels′ ≡ over (levelsOf s) levels

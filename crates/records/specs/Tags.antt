@@ -1,7 +1,7 @@
 -- A report's records as tags, and what a sequence of tags opens and leaves open. Document 01, "Records": a report record of kind 1
 -- opens an element, one of kind 2 closes the innermost open one; elements are numbered in order of opening; the root is at level 0.
 -- Laws: proofs/TagLaws.antt. Assumes nothing.
-use Prim.Native.Nat.{ℕ, zero, suc, pred}
+use Prim.Native.Nat.{ℕ, suc, pred}
 use mathlib.Core.Bool.{Bool, cond, _||_}
 use mathlib.Core.List.{List, [], _∷_}
 use lib.Dec.{leb, ltb, eqb}

@@ -1,6 +1,6 @@
 -- `frame_of` goes through the specification's tests in their order. Assumes nothing.
 use native.Mathlib.Omega.{arith}
-use mathlib.Core.Path.{_≡_, sym, _∙_}
+use mathlib.Core.Path.{sym, _∙_}
 use Rattle.records.proofs.FrameLaws.{frame-unknown, frame-wrong, frame-past, frame-whole}
 use borrow.Author.Needs.{needs}
 use Rattle.records.proofs.frame.frame_of.Statement.{statement}

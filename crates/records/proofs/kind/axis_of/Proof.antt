@@ -1,12 +1,11 @@
 -- `axis_of` finds the axis. Assumes nothing.
-use mathlib.Core.Path.{_≡_, refl, ap, sym, _∙_}
+use mathlib.Core.Path.{_≡_, ap, sym}
 use native.Mathlib.Omega.{arith}
 use Prim.Native.Nat.{ℕ, suc, _≤_}
 use mathlib.Core.List.{[], _∷_}
 use lib.ListN.{List·getD-eq-default}
 use lib.Arith.{lt-of-le-ne}
 use Rattle.records.specs.declared.kind.Axis.the-variants.{Child, Parent, Next, Previous}
-use borrow.Author.Needs.{needs}
 use Rattle.records.specs.Kinds.{axisOf}
 use Rattle.records.proofs.kind.axis_of.Statement.{statement}
 use Rattle.records.proofs.kind.axis_of.Tie as tie

@@ -1,5 +1,5 @@
 -- `row_of` finds the row of the table: a range of kinds by the law that serves every range. Assumes nothing.
-use Prim.Native.Nat.{ℕ, _-_, _≤_}
+use Prim.Native.Nat.{_-_, _≤_}
 use native.Mathlib.Omega.{arith}
 use mathlib.Core.Path.{_≡_, refl, ap, sym}
 use lib.ListN.{List·getD-eq-default}

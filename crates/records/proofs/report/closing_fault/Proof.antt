@@ -1,6 +1,6 @@
 -- `closing_fault`: another length, or the tag decides. Assumes nothing.
 use native.Mathlib.Omega.{arith}
-use mathlib.Core.Path.{_≡_, refl, sym, _∙_}
+use mathlib.Core.Path.{sym, _∙_}
 use Rattle.records.proofs.ReportLaws.{length-closes, record-wrong, record-closes}
 use borrow.Author.Needs.{needs}
 use Rattle.records.proofs.report.closing_fault.Statement.{statement}

@@ -1,6 +1,6 @@
 -- `opening_fault`: another length, past the end, or the tag decides. Assumes nothing.
 use native.Mathlib.Omega.{arith}
-use mathlib.Core.Path.{_≡_, refl, sym, _∙_}
+use mathlib.Core.Path.{sym, _∙_}
 use Rattle.records.proofs.ReportLaws.{length-opens, record-wrong, record-past, record-opens}
 use borrow.Author.Needs.{needs}
 use Rattle.records.proofs.report.opening_fault.Statement.{statement}

@@ -1,6 +1,6 @@
 -- `record_fault` goes by the kind. Assumes nothing.
 use native.Mathlib.Omega.{arith}
-use mathlib.Core.Path.{_≡_, refl, sym, _∙_}
+use mathlib.Core.Path.{refl, _∙_}
 use Rattle.records.proofs.ReportLaws.{record-few, record-unknown, length-none}
 use borrow.Author.Needs.{needs}
 use Rattle.records.proofs.report.record_fault.Statement.{statement}

@@ -1,6 +1,6 @@
 -- Assumes nothing.
 use native.Mathlib.Omega.{arith}
-use mathlib.Core.Path.{_≡_, refl}
+use mathlib.Core.Path.{refl}
 use Rattle.records.proofs.rule.argument.Statement.{statement}
 use Rattle.records.proofs.rule.argument.Tie as tie
 

@@ -1,8 +1,6 @@
 -- `entry_of` reads as many numbers as the row has. Assumes nothing.
 use native.Mathlib.Omega.{arith}
-use Prim.Native.Nat.{ℕ}
 use borrow.Author.Tests.{leb-true}
-use mathlib.Core.Path.{_≡_}
 use Rattle.records.specs.Rule.{entryOf}
 use borrow.Author.Needs.{needs}
 use Rattle.records.proofs.rule.entry_of.Statement.{statement}

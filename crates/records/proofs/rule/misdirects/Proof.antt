@@ -1,5 +1,5 @@
 -- `misdirects` tests what the row says the numbers are. Assumes nothing.
-use mathlib.Core.Path.{_≡_, refl}
+use mathlib.Core.Path.{refl}
 use Rattle.records.specs.Rule.{misdirected}
 use borrow.Author.Needs.{needs}
 use Rattle.records.proofs.rule.misdirects.Statement.{statement}

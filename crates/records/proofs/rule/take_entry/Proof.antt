@@ -1,6 +1,6 @@
 -- `take_entry` goes through the rows 4, 2, 3 in their order. Assumes nothing.
 use native.Mathlib.Omega.{arith}
-use mathlib.Core.Path.{_≡_, refl, ap, sym, _∙_}
+use mathlib.Core.Path.{refl, ap, sym, _∙_}
 use Rattle.records.specs.Kinds.{rowOf}
 use Rattle.records.proofs.FrameLaws.{whole-stands}
 use Rattle.records.proofs.RuleLaws.{rule-full, rule-few, rule-broken, rule-room, taken-faulty, taken-whole}

@@ -1,5 +1,5 @@
 -- `whole_entry` tests the entry by what its row says of its numbers. Assumes nothing.
-use mathlib.Core.Path.{_≡_, refl, sym, _∙_}
+use mathlib.Core.Path.{sym, _∙_}
 use borrow.Author.Needs.{needs}
 use Rattle.records.proofs.rule.whole_entry.Statement.{statement}
 use Rattle.records.proofs.rule.whole_entry.Tie as tie

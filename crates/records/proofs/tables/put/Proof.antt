@@ -3,8 +3,6 @@ use lib.Seq.{set-out}
 use borrow.Author.Needs.{needs}
 use Rattle.records.proofs.tables.put.Statement.{statement}
 use Rattle.records.proofs.tables.put.Tie as tie
-use Rattle.records.proofs.tables.put.Reads as reads
-use Rattle.records.proofs.tables.put.Lts as lts
 
 -- src/tables.rt:157:21
 cast-column : tie.Need-cast-column

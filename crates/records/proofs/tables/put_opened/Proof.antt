@@ -1,9 +1,6 @@
 use borrow.Author.Needs.{needs}
 use Rattle.records.proofs.tables.put_opened.Statement.{statement}
 use Rattle.records.proofs.tables.put_opened.Tie as tie
-use Rattle.records.proofs.tables.put_opened.Reads as reads
-use Rattle.records.proofs.tables.put_opened.Lts as lts
-use Rattle.records.proofs.tables.put.Reads as put-reads
 
 -- src/tables.rt:175:9
 put-requires : tie.Need-put-requires

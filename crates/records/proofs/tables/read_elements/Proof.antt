@@ -6,10 +6,9 @@ use Prim.Native.Nat.{ℕ, _+_, _≤_, _-_}
 use lib.ListN.{length}
 use mathlib.Core.Path.{_≡_, ap, sym, _∙_}
 use Rattle.records.specs.Bytes.{numberAt}
-use Rattle.records.specs.Frame.{kindAt}
 use Rattle.records.specs.Report.{recordFault}
 use Rattle.records.specs.declared.answer.Answer.the-variants.{Refused}
-use Rattle.records.proofs.ReportLaws.{ReportMid, record-sound, label-room, report-next, report-opens, report-open, report-closes, report-ends, report-refuses, report-empty, report-long}
+use Rattle.records.proofs.ReportLaws.{record-sound, label-room, report-next, report-opens, report-open, report-closes, report-ends, report-refuses, report-empty, report-long}
 use Rattle.records.proofs.TableLaws.{over-length}
 use Rattle.records.proofs.WalkLaws.{WalkMid, opens-size, closes-size, moved, walk-start, walk-turn, walk-ended, walk-refused, read-empty, read-long, refused-not, end-accepted}
 use Rattle.records.proofs.tables.read_elements.Statement.{statement}
