@@ -28,7 +28,8 @@ use Rattle.records.specs.Kinds.{leadsBack}
 use Rattle.paths.specs.Syntax.{Test, namesT}
 use Rattle.paths.specs.Selection.{Selects}
 use Rattle.paths.specs.Translation.{lastOf, tableOf}
-use Rattle.paths.specs.Answer.{entriesMost, TextOf, bytesFor, taken}
+use Rattle.records.specs.Limits.{entriesMost}
+use Rattle.paths.specs.Answer.{TextOf, bytesFor, taken}
 use Rattle.paths.proofs.Answer.{gets-only}
 use Rattle.paths.proofs.Unambiguous.{text-only}
 use Rattle.paths.proofs.Agrees.{table-selects, pred-lt}

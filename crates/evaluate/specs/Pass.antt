@@ -9,6 +9,8 @@ use lib.ListN.{length, getD, take}
 use Rattle.records.specs.declared.rule.Entry.{Entry}
 use Rattle.records.specs.Tables.{over}
 use Rattle.meaning.specs.Marks.{bit, bitAt, words, selected}
+use Rattle.records.specs.Limits.{elementsMost}
+use Rattle.meaning.specs.Marks.{wordBits}
 
 -- The first n words after are w, and the others are as before.
 pub record Stored (n : ℕ) (w : ℕ → ℕ) (before after : List ℕ) : Type 0 where
@@ -22,9 +24,9 @@ pub record Passed (n i : ℕ) (m : ℕ → Bool) (before after : List ℕ) : Typ
 
 -- A pass for entry i over the first n words has room: there are n words, they have bits below i only, and i is a bit of a word.
 pub record Room (n i : ℕ) (ws : List ℕ) : Type 0 where
-  pub few : n ≤ 4096
+  pub few : n ≤ elementsMost
   pub room : n ≤ length ws
-  pub top : i < 64
+  pub top : i < wordBits
   pub small : (s : ℕ) → s < n → getD ws s 0 < 2 ^ i
 
 -- Bit a of each word.

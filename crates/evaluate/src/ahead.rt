@@ -5,7 +5,7 @@ ghost use mathlib.Core.Bool.{_&&_};
 ghost use Prim.Native.Nat.{ℕ, _≤_, _<_};
 ghost use lib.ListN.{length, getD};
 ghost use Rattle.meaning.specs.Tree.{forward};
-ghost use Rattle.meaning.specs.Marks.{bitAt, someOf};
+ghost use Rattle.meaning.specs.Marks.{bitAt, someOf, wordBits};
 ghost use Rattle.evaluate.specs.Links.{leads};
 ghost use Rattle.evaluate.specs.Pass.{Passed, Room, bitsOf};
 ghost use Rattle.evaluate.specs.Steps.{ownStep, givenStep, aheadMark, Nearest};
@@ -45,7 +45,7 @@ fn given_mark(look: Look, a: bool, own: bool) -> bool
 
 // An element's mark, by its word.
 fn own_at(look: Look, a: usize, b: usize, i: usize, child: bool, w: u64) -> bool
-    requires { ⌜ (a < 64) × (b < 64) × (i < 64) ⌝ }
+    requires { ⌜ (a < wordBits) × (b < wordBits) × (i < wordBits) ⌝ }
     ensures { λ r. ⌜ r ≡ ownStep look (bitAt w a) (bitAt w b) (bitAt w i) child ⌝ }
 {
     own_mark(look, bit_at(w, a), bit_at(w, b), bit_at(w, i), child)
@@ -53,7 +53,7 @@ fn own_at(look: Look, a: usize, b: usize, i: usize, child: bool, w: u64) -> bool
 
 // Whether an element of the word w and the mark `own` gives, if its column leads on.
 fn given_at(look: Look, a: usize, there: bool, own: bool, w: u64) -> bool
-    requires { ⌜ a < 64 ⌝ }
+    requires { ⌜ a < wordBits ⌝ }
     ensures { λ r. ⌜ r ≡ (there && givenStep look (bitAt w a) own) ⌝ }
 {
     there & given_mark(look, bit_at(w, a), own)

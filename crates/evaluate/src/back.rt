@@ -5,7 +5,7 @@ ghost use Prim.Native.Nat.{ℕ, _*_, _^_, _≤_, _<_};
 ghost use lib.Bits.{bitOr};
 ghost use lib.ListN.{length, getD};
 ghost use Rattle.meaning.specs.Tree.{backward};
-ghost use Rattle.meaning.specs.Marks.{bit, bitAt};
+ghost use Rattle.meaning.specs.Marks.{bit, bitAt, wordBits};
 ghost use Rattle.evaluate.specs.Links.{leads};
 ghost use Rattle.evaluate.specs.Pass.{Passed, Room, bitsOf};
 ghost use Rattle.evaluate.specs.Steps.{backStep, alongMark};
@@ -15,7 +15,7 @@ use crate::word::wide;
 
 // As a number, whether the word w has bit b, or bit a and, where `there`, the word v bit i.
 fn until_mark(a: usize, b: usize, i: usize, there: bool, v: u64, w: u64) -> u64
-    requires { ⌜ (a < 64) × (b < 64) × (i < 64) ⌝ }
+    requires { ⌜ (a < wordBits) × (b < wordBits) × (i < wordBits) ⌝ }
     ensures { λ r. ⌜ (r ≡ bit (bitAt w b || (bitAt w a && (there && bitAt v i)))) × (r < 2) ⌝ }
 {
     ((w >> b) | ((w >> a) & ((there as u64) & (v >> i)))) % 2
@@ -24,7 +24,7 @@ fn until_mark(a: usize, b: usize, i: usize, there: bool, v: u64, w: u64) -> u64
 // The word of an element, with the mark of entry i: `there` says that its column leads on, to an
 // element with the word v.
 fn back_word(until: bool, a: usize, b: usize, i: usize, there: bool, v: u64, w: u64) -> u64
-    requires { ⌜ (a < 64) × (b < 64) × (i < 64) ⌝ }
+    requires { ⌜ (a < wordBits) × (b < wordBits) × (i < wordBits) ⌝ }
     ensures { λ r. ⌜ r ≡ bitOr w (bit (backStep until (bitAt w a) (bitAt w b) (there && bitAt v a) (there && bitAt v i)) * 2 ^ i) ⌝ }
 {
     if until {

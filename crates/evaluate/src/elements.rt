@@ -7,6 +7,7 @@ ghost use Rattle.grammar.specs.Rules.{RuleEntries};
 ghost use Rattle.meaning.specs.Marks.{selected};
 ghost use Rattle.evaluate.specs.Pass.{Stored, Marked};
 ghost use Rattle.grammar.specs.Columns.{tableOf};
+ghost use Rattle.records.specs.Limits.{entriesMost};
 use crate::entry::mark_entries;
 use crate::links::link;
 use crate::word::bit_at;
@@ -25,7 +26,7 @@ fn clear(marks: &mut [u64], n: usize)
 
 // How many of the first n words have the last entry's bit.
 fn count_selected(marks: &[u64], n: usize, entries: usize) -> usize
-    requires { ⌜ (n ≤ length (now marks)) × (1 ≤ entries) × (entries ≤ 64) ⌝ }
+    requires { ⌜ (n ≤ length (now marks)) × (1 ≤ entries) × (entries ≤ entriesMost) ⌝ }
     ensures { λ r. ⌜ r ≡ selected entries (take n (now (marks .entry))) ⌝ }
 {
     let mut count: usize = 0;

@@ -4,12 +4,25 @@ ghost use Prim.Native.Nat.{_*_, _≤_};
 ghost use lib.ListN.{length, take};
 ghost use Rattle.grammar.specs.Legal.{LegalLevels};
 ghost use Rattle.grammar.specs.Rules.{RuleEntries};
-ghost use Rattle.evaluate.specs.Evaluation.{refused, Evaluated, Reported, Weighed};
+ghost use Rattle.evaluate.specs.Evaluation.{refused, Evaluated, Reported, Weighed, elementBytes, smallColumns, middleColumns};
 ghost use Rattle.grammar.specs.Columns.{tableOf};
+ghost use Rattle.records.specs.Limits.{elementsMost, reportMost};
 use crate::elements::mark_elements;
 use records::answer::Answer;
+use records::limits::ELEMENTS_MOST;
+use records::limits::ENTRIES_MOST;
 use records::tables::read_elements;
 use records::tables::read_entries;
+
+// Columns are made for so many elements, by how many bytes the report has: an accepted report has ten
+// bytes an element.
+const SMALL: usize = 64;
+
+const SMALL_BYTES: usize = 640;
+
+const MIDDLE: usize = 512;
+
+const MIDDLE_BYTES: usize = 5120;
 
 // What a whole report is answered: document 01's number, the place, how many elements there are and
 // how many of them are selected. Refused: elements and selected are 0.
@@ -23,7 +36,7 @@ pub struct Evaluation {
 
 // A refusal.
 fn refuse(number: u32, place: usize) -> Evaluation
-    requires { ⌜ place ≤ 40960 ⌝ }
+    requires { ⌜ place ≤ reportMost ⌝ }
     ensures { λ r. ⌜ r ≡ refused number place ⌝ }
 {
     Evaluation {
@@ -50,7 +63,7 @@ fn weigh(
     requires { ⌜ RuleEntries (tableOf entries (now kinds) (now firsts) (now seconds)) ⌝ }
     requires { ⌜ (entries ≤ length (now kinds)) × (entries ≤ length (now firsts)) × (entries ≤ length (now seconds)) ⌝ }
     requires { ⌜ LegalLevels (take n (now levels)) ⌝ }
-    requires { ⌜ (n ≤ length (now labels)) × (n ≤ length (now levels)) × (n ≤ 4096) × (n ≤ length (now ups)) × (n ≤ length (now lefts)) ⌝ }
+    requires { ⌜ (n ≤ length (now labels)) × (n ≤ length (now levels)) × (n ≤ elementsMost) × (n ≤ length (now ups)) × (n ≤ length (now lefts)) ⌝ }
     ensures { λ r. ⌜ Weighed (tableOf entries (now (kinds .entry)) (now (firsts .entry)) (now (seconds .entry))) (take n (now (levels .entry))) (take n (now (labels .entry))) (now (marks .entry)) r (now (marks .exit)) ⌝ }
 {
     if marks.len() < n {
@@ -92,7 +105,7 @@ fn evaluate_within(
 ) -> Evaluation
     requires { ⌜ RuleEntries (tableOf entries (now kinds) (now firsts) (now seconds)) ⌝ }
     requires { ⌜ (entries ≤ length (now kinds)) × (entries ≤ length (now firsts)) × (entries ≤ length (now seconds)) ⌝ }
-    requires { ⌜ (length (now report) ≤ 40960 → length (now report) ≤ 10 * length (now labels)) ⌝ }
+    requires { ⌜ (length (now report) ≤ reportMost → length (now report) ≤ elementBytes * length (now labels)) ⌝ }
     requires { ⌜ (length (now levels) ≡ length (now labels)) × (length (now ups) ≡ length (now labels)) × (length (now lefts) ≡ length (now labels)) ⌝ }
     ensures { λ r. ⌜ Reported (tableOf entries (now (kinds .entry)) (now (firsts .entry)) (now (seconds .entry))) (now (report .entry)) (now (marks .entry)) r (now (marks .exit)) ⌝ }
 {
@@ -124,13 +137,13 @@ fn evaluate_small(
 ) -> Evaluation
     requires { ⌜ RuleEntries (tableOf entries (now kinds) (now firsts) (now seconds)) ⌝ }
     requires { ⌜ (entries ≤ length (now kinds)) × (entries ≤ length (now firsts)) × (entries ≤ length (now seconds)) ⌝ }
-    requires { ⌜ length (now report) ≤ 640 ⌝ }
+    requires { ⌜ length (now report) ≤ elementBytes * smallColumns ⌝ }
     ensures { λ r. ⌜ Reported (tableOf entries (now (kinds .entry)) (now (firsts .entry)) (now (seconds .entry))) (now (report .entry)) (now (marks .entry)) r (now (marks .exit)) ⌝ }
 {
-    let mut labels = [0u16; 64];
-    let mut levels = [0u16; 64];
-    let mut ups = [0u16; 64];
-    let mut lefts = [0u16; 64];
+    let mut labels = [0u16; SMALL];
+    let mut levels = [0u16; SMALL];
+    let mut ups = [0u16; SMALL];
+    let mut lefts = [0u16; SMALL];
     evaluate_within(
         entries,
         kinds,
@@ -156,13 +169,13 @@ fn evaluate_middle(
 ) -> Evaluation
     requires { ⌜ RuleEntries (tableOf entries (now kinds) (now firsts) (now seconds)) ⌝ }
     requires { ⌜ (entries ≤ length (now kinds)) × (entries ≤ length (now firsts)) × (entries ≤ length (now seconds)) ⌝ }
-    requires { ⌜ length (now report) ≤ 5120 ⌝ }
+    requires { ⌜ length (now report) ≤ elementBytes * middleColumns ⌝ }
     ensures { λ r. ⌜ Reported (tableOf entries (now (kinds .entry)) (now (firsts .entry)) (now (seconds .entry))) (now (report .entry)) (now (marks .entry)) r (now (marks .exit)) ⌝ }
 {
-    let mut labels = [0u16; 512];
-    let mut levels = [0u16; 512];
-    let mut ups = [0u16; 512];
-    let mut lefts = [0u16; 512];
+    let mut labels = [0u16; MIDDLE];
+    let mut levels = [0u16; MIDDLE];
+    let mut ups = [0u16; MIDDLE];
+    let mut lefts = [0u16; MIDDLE];
     evaluate_within(
         entries,
         kinds,
@@ -190,10 +203,10 @@ fn evaluate_large(
     requires { ⌜ (entries ≤ length (now kinds)) × (entries ≤ length (now firsts)) × (entries ≤ length (now seconds)) ⌝ }
     ensures { λ r. ⌜ Reported (tableOf entries (now (kinds .entry)) (now (firsts .entry)) (now (seconds .entry))) (now (report .entry)) (now (marks .entry)) r (now (marks .exit)) ⌝ }
 {
-    let mut labels = [0u16; 4096];
-    let mut levels = [0u16; 4096];
-    let mut ups = [0u16; 4096];
-    let mut lefts = [0u16; 4096];
+    let mut labels = [0u16; ELEMENTS_MOST];
+    let mut levels = [0u16; ELEMENTS_MOST];
+    let mut ups = [0u16; ELEMENTS_MOST];
+    let mut lefts = [0u16; ELEMENTS_MOST];
     evaluate_within(
         entries,
         kinds,
@@ -221,10 +234,10 @@ fn evaluate_report(
     requires { ⌜ (entries ≤ length (now kinds)) × (entries ≤ length (now firsts)) × (entries ≤ length (now seconds)) ⌝ }
     ensures { λ r. ⌜ Reported (tableOf entries (now (kinds .entry)) (now (firsts .entry)) (now (seconds .entry))) (now (report .entry)) (now (marks .entry)) r (now (marks .exit)) ⌝ }
 {
-    if report.len() <= 640 {
+    if report.len() <= SMALL_BYTES {
         return evaluate_small(entries, kinds, firsts, seconds, report, marks);
     }
-    if report.len() <= 5120 {
+    if report.len() <= MIDDLE_BYTES {
         return evaluate_middle(entries, kinds, firsts, seconds, report, marks);
     }
     evaluate_large(entries, kinds, firsts, seconds, report, marks)
@@ -235,9 +248,9 @@ fn evaluate_report(
 pub extern "C" fn pz_evaluate(rule: &[u8], report: &[u8], marks: &mut [u64]) -> Evaluation
     ensures { λ r. ⌜ Evaluated (now (rule .entry)) (now (report .entry)) (now (marks .entry)) r (now (marks .exit)) ⌝ }
 {
-    let mut kinds = [0u16; 64];
-    let mut firsts = [0u16; 64];
-    let mut seconds = [0u16; 64];
+    let mut kinds = [0u16; ENTRIES_MOST];
+    let mut firsts = [0u16; ENTRIES_MOST];
+    let mut seconds = [0u16; ENTRIES_MOST];
     match read_entries(rule, &mut kinds, &mut firsts, &mut seconds) {
         Answer::Accepted(entries) => evaluate_report(
             entries,

@@ -5,6 +5,9 @@ ghost use Rattle.grammar.specs.Legal.{LegalLevels};
 ghost use Rattle.evaluate.specs.Links.{Linked};
 use crate::word::wide;
 
+// A place for each level, the one above the first and the one below the last.
+const HELD: usize = 66;
+
 // Fills the columns of parents and previous siblings; an element's own number stands where it has
 // none. Place d of `held` has the last element one level above d, so the parent of one at level d, and
 // place d + 1 the last at level d; an element that opens puts the number of the one after it where its
@@ -14,7 +17,7 @@ pub(crate) fn link(levels: &[u16], ups: &mut [u16], lefts: &mut [u16])
     requires { ⌜ (length (now ups) ≡ length (now levels)) × (length (now lefts) ≡ length (now levels)) ⌝ }
     ensures { λ _. ⌜ Linked (now (levels .entry)) (now (ups .exit)) (now (lefts .exit)) ⌝ }
 {
-    let mut held = [0u16; 66];
+    let mut held = [0u16; HELD];
     let mut s: usize = 0;
     while s < levels.len() {
         let d = wide(levels[s]);

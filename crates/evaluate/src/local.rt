@@ -5,7 +5,7 @@ ghost use lib.Dec.{eqb};
 ghost use lib.ListN.{length, getD};
 ghost use Rattle.records.specs.Kinds.{localNumbers};
 ghost use Rattle.records.specs.declared.kind.Numbers.the-variants.{Entries};
-ghost use Rattle.meaning.specs.Marks.{bitAt, meansHere};
+ghost use Rattle.meaning.specs.Marks.{bitAt, meansHere, wordBits};
 ghost use Rattle.evaluate.specs.Pass.{Passed, Room, bitsOf};
 ghost use Rattle.evaluate.specs.Steps.{gateMark};
 use crate::word::put_bit;
@@ -19,7 +19,7 @@ struct Gate(bool, bool, bool);
 
 // The gate at bits a and b of a word.
 fn gate_mark(g: Gate, a: usize, b: usize, w: u64) -> bool
-    requires { ⌜ (a < 64) × (b < 64) ⌝ }
+    requires { ⌜ (a < wordBits) × (b < wordBits) ⌝ }
     ensures { λ r. ⌜ r ≡ gateMark g (bitAt w a) (bitAt w b) ⌝ }
 {
     let x = (w >> a) ^ (g.0 as u64);
@@ -29,7 +29,7 @@ fn gate_mark(g: Gate, a: usize, b: usize, w: u64) -> bool
 
 // Entry i at the first n elements, by a gate at their bits a and b.
 fn gate_pass(g: Gate, a: usize, b: usize, i: usize, n: usize, marks: &mut [u64])
-    requires { ⌜ (a < 64) × (b < 64) ⌝ }
+    requires { ⌜ (a < wordBits) × (b < wordBits) ⌝ }
     requires { ⌜ Room n i (now marks) ⌝ }
     ensures { λ _. ⌜ Passed n i (λ s. gateMark g (bitsOf (now (marks .entry)) a s) (bitsOf (now (marks .entry)) b s)) (now (marks .entry)) (now (marks .exit)) ⌝ }
 {

@@ -8,6 +8,7 @@ use mathlib.Core.List.{List, [], _∷_}
 use lib.Dec.{ltb, eqb}
 use lib.ListN.{length, getD}
 use Rattle.records.specs.Tags.{Tag, depthFrom, opened, tagFault}
+use Rattle.records.specs.Limits.{elementsMost}
 
 -- No tag gets a number, where d elements are open and e have been opened before the tags.
 unfoldable pub Fit : ℕ → ℕ → List Tag → Type 0
@@ -25,4 +26,4 @@ pub record LegalLevels (ls : List ℕ) : Type 0 where
   pub root : getD ls 0 0 ≡ 0
   pub next : (i : ℕ) → suc i < length ls → (1 ≤ getD ls (suc i) 0) × (getD ls (suc i) 0 ≤ suc (getD ls i 0))
   pub low : (i : ℕ) → i < length ls → getD ls i 0 ≤ 63
-  pub few : length ls ≤ 4096
+  pub few : length ls ≤ elementsMost

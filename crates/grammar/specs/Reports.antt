@@ -6,6 +6,7 @@ use mathlib.Core.List.{List, [], _∷_, _++_}
 use lib.ListN.{length, getD}
 use Rattle.records.specs.Tags.{Tag, opens, closes, labels}
 use Rattle.grammar.specs.Bytes.{twoBytes}
+use Rattle.records.specs.Limits.{labelMost, elementsMost, levelsMost}
 
 -- The bytes of a tag's record, and of a sequence of tags.
 unfoldable pub tagBytes : Tag → List ℕ
@@ -54,10 +55,10 @@ unfoldable mutual
 
 -- Every label is in 1..999.
 abbrev pub Labelled : List ℕ → Type 0
-Labelled ls = (i : ℕ) → i < length ls → (1 ≤ getD ls i 0) × (getD ls i 0 ≤ 999)
+Labelled ls = (i : ℕ) → i < length ls → (1 ≤ getD ls i 0) × (getD ls i 0 ≤ labelMost)
 
 -- The tree is within the limits.
 pub record Within (t : Tree) : Type 0 where
-  pub few : sizeT t ≤ 4096
-  pub shallow : heightT t ≤ 64
+  pub few : sizeT t ≤ elementsMost
+  pub shallow : heightT t ≤ levelsMost
   pub labelled : Labelled (labels (tagsT t))

@@ -10,6 +10,7 @@ use Rattle.records.specs.Kinds.{rowOf}
 use Rattle.records.specs.declared.rule.Entry.{Entry}
 use Rattle.grammar.specs.Bytes.{twoBytes}
 use Rattle.grammar.specs.When.{Misdirected}
+use Rattle.records.specs.Limits.{entriesMost}
 
 -- The entry of kind 0, which is no kind: what stands for an entry where there is none.
 abbrev pub noEntry : Entry
@@ -39,5 +40,5 @@ pub record WellFormed (own : ℕ) (e : Entry) : Type 0 where
 -- A rule's entries: 1 to 64 of them, each well formed at its place.
 pub record RuleEntries (es : List Entry) : Type 0 where
   pub nonempty : 1 ≤ length es
-  pub few : length es ≤ 64
+  pub few : length es ≤ entriesMost
   pub formed : (i : ℕ) → i < length es → WellFormed i (getD es i noEntry)

@@ -14,6 +14,7 @@ use Rattle.records.specs.Tags.{Tag, opens, closes, depth, opened}
 use Rattle.records.specs.declared.kind.Numbers.the-variants.{Label, Entries}
 use Rattle.records.specs.declared.kind.Row.{Row}
 use Rattle.records.specs.declared.rule.Entry.{Entry}
+use Rattle.records.specs.Limits.{labelMost, elementsMost, levelsMost}
 
 -- Rows 1 and 5 do not apply: the string has 1 byte or more, and not more than `most`.
 pub record Sized (most : ℕ) (s : List ℕ) : Type 0 where
@@ -30,7 +31,7 @@ pub data Faulty (lengths : ℕ → ℕ) (s : List ℕ) (at : ℕ) : Type 0 where
 
 -- A label outside 1..999.
 abbrev pub Outside : ℕ → Type 0
-Outside label = (label < 1) ⊎ (999 < label)
+Outside label = (label < 1) ⊎ (labelMost < label)
 
 -- Row 3: an entry of this row has an entry number that is not below its own, or a label outside 1..999.
 pub data Misdirected (row : Row) (own : ℕ) (e : Entry) : Type 0 where
@@ -65,8 +66,8 @@ pub data Unbalanced (depth elements : ℕ) : Tag → Type 0 where
 
 -- Row 8 at a tag: an opening at level 64, or of a 4,097th element.
 pub data TooMuch (depth elements : ℕ) : Tag → Type 0 where
-  too-deep : {label : ℕ} → 64 ≤ depth → TooMuch depth elements (opens label)
-  too-many : {label : ℕ} → 4096 ≤ elements → TooMuch depth elements (opens label)
+  too-deep : {label : ℕ} → levelsMost ≤ depth → TooMuch depth elements (opens label)
+  too-many : {label : ℕ} → elementsMost ≤ elements → TooMuch depth elements (opens label)
 
 -- Row 6 at the record that begins at an offset: it is faulty as in row 2, or its label is outside 1..999.
 abbrev pub Row6 : List ℕ → ℕ → Type 0

@@ -18,10 +18,11 @@ use Rattle.evaluate.specs.declared.evaluate.Evaluation.{Evaluation}
 use Rattle.text.specs.Text.{refusedLine, acceptedText}
 use Rattle.judge.specs.Input.{splitOf, ruleIn, reportIn}
 use Rattle.judge.specs.declared.split.Halves.{Halves}
+use Rattle.records.specs.Limits.{elementsMost}
 
 -- How many elements the program has room for: as many as a report may have, so that 9 is never printed.
 abbrev pub room : ℕ
-room = 4096
+room = elementsMost
 
 -- The text of an accepted rule and report: each element with its label, its level and the meaning's verdict.
 unfoldable pub acceptedRecord : (rule report : List ℕ) → List ℕ

@@ -8,7 +8,9 @@ ghost use Rattle.judge.specs.Output.{AcceptedWith, acceptedRecord, judge
 use crate::split::split;
 use evaluate::evaluate::pz_evaluate;
 use records::export::pz_read_rule;
+use records::limits::ELEMENTS_MOST;
 use records::tables::read_elements;
+use text::put::TEXT_BYTES;
 use text::render::put_accepted;
 use text::render::put_refused;
 
@@ -16,26 +18,26 @@ use text::render::put_refused;
 fn put_marked(
     rule: &[u8],
     report: &[u8],
-    marks: &[u64; 4096],
+    marks: &[u64; ELEMENTS_MOST],
     elements: usize,
     selected: usize,
-    out: &mut [u8; 81920],
+    out: &mut [u8; TEXT_BYTES],
 ) -> usize
     requires { ⌜ AcceptedWith (now rule) (now report) (now marks) elements selected ⌝ }
     ensures { λ r. ⌜ Rendered (acceptedRecord (now (rule .entry)) (now (report .entry))) (now (out .entry)) r (now (out .exit)) ⌝ }
 {
-    let mut labels = [0u16; 4096];
-    let mut levels = [0u16; 4096];
+    let mut labels = [0u16; ELEMENTS_MOST];
+    let mut levels = [0u16; ELEMENTS_MOST];
     read_elements(report, &mut labels, &mut levels);
     let last = pz_read_rule(rule).entries as usize - 1;
     put_accepted(out, &labels, &levels, marks, elements, last, selected)
 }
 
 // Puts the record of a rule and a report.
-fn put_halves(rule: &[u8], report: &[u8], out: &mut [u8; 81920]) -> usize
+fn put_halves(rule: &[u8], report: &[u8], out: &mut [u8; TEXT_BYTES]) -> usize
     ensures { λ r. ⌜ Rendered (judgedRecord (now (rule .entry)) (now (report .entry))) (now (out .entry)) r (now (out .exit)) ⌝ }
 {
-    let mut marks = [0u64; 4096];
+    let mut marks = [0u64; ELEMENTS_MOST];
     let r = pz_evaluate(rule, report, &mut marks);
     if r.number == 0 {
         put_marked(
@@ -52,7 +54,7 @@ fn put_halves(rule: &[u8], report: &[u8], out: &mut [u8; 81920]) -> usize
 }
 
 // Puts the record of an input, the rule's end being known.
-fn put_split(input: &[u8], end: usize, out: &mut [u8; 81920]) -> usize
+fn put_split(input: &[u8], end: usize, out: &mut [u8; TEXT_BYTES]) -> usize
     requires { ⌜ (2 ≤ end) × (end ≤ length (now input)) ⌝ }
     ensures { λ r. ⌜ Rendered (judgedRecord (ruleIn (now (input .entry)) end) (reportIn (now (input .entry)) end)) (now (out .entry)) r (now (out .exit)) ⌝ }
 {
@@ -60,7 +62,7 @@ fn put_split(input: &[u8], end: usize, out: &mut [u8; 81920]) -> usize
 }
 
 // Puts the record of an input.
-pub fn put_record(input: &[u8], out: &mut [u8; 81920]) -> usize
+pub fn put_record(input: &[u8], out: &mut [u8; TEXT_BYTES]) -> usize
     ensures { λ r. ⌜ Rendered (recordOf (now (input .entry))) (now (out .entry)) r (now (out .exit)) ⌝ }
 {
     let s = split(input);

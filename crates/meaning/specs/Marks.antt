@@ -76,6 +76,10 @@ module _ (levels labels : List ℕ) where
     unfoldable pub mark : (i s : ℕ) → Bool
     mark i = below (suc i) i
 
+-- A mark word has so many bits, one for each entry that a rule may have.
+abbrev pub wordBits : ℕ
+wordBits = 64
+
 -- A number's bit.
 abbrev pub bit : Bool → ℕ
 bit true = 1

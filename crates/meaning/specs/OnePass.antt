@@ -19,6 +19,7 @@ use Rattle.records.specs.declared.kind.Shape.{Shape}
 use Rattle.records.specs.declared.kind.Shape.the-variants.{Nothing as nothing, Here as local, SomeAlong as someAlong, UntilAlong as untilAlong, EveryChild as everyChild}
 use Rattle.records.specs.Kinds.{shapeOf}
 use Rattle.meaning.specs.Marks.{bit, bitAt, meansHere}
+use Rattle.records.specs.Limits.{levelsMost}
 
 -- How many elements are open and have been opened, whether the root is closed, and for each of 64 levels a presence bit, an open
 -- word and a last word.
@@ -37,9 +38,9 @@ fresh =
       depth = 0;
       elements = 0;
       rootClosed = false;
-      presence = replicate 64 false;
-      openWords = replicate 64 0;
-      lastWords = replicate 64 0;
+      presence = replicate levelsMost false;
+      openWords = replicate levelsMost 0;
+      lastWords = replicate levelsMost 0;
     }
 
 -- The word that an axis leads to from an element that opens: its parent's, its previous sibling's; what is ahead has no word yet.

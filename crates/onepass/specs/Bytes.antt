@@ -6,6 +6,7 @@ use mathlib.Core.List.{List}
 use lib.Dec.{eqb}
 use lib.ListN.{getD, set}
 use Rattle.meaning.specs.Marks.{bitAt, word}
+use Rattle.meaning.specs.Marks.{wordBits}
 
 -- The number whose k bytes stand at an offset.
 unfoldable pub wordAt : ℕ → List ℕ → ℕ → ℕ
@@ -19,4 +20,4 @@ putAt (suc k) at v s = putAt k (at + 1) (v / 256) (set s at (v % 256))
 
 -- The 64-bit word w with bit i put to `on`; every other bit stays.
 unfoldable pub withBit : ℕ → Bool → ℕ → ℕ
-withBit i on w = word 64 (λ j. cond (eqb j i) on (bitAt w j))
+withBit i on w = word wordBits (λ j. cond (eqb j i) on (bitAt w j))

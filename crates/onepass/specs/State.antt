@@ -12,6 +12,7 @@ use lib.ListN.{length, getD}
 use Rattle.meaning.specs.Marks.{bitAt}
 use Rattle.meaning.specs.OnePass.{State}
 use Rattle.onepass.specs.Bytes.{wordAt}
+use Rattle.records.specs.Limits.{elementsMost, levelsMost}
 
 -- The size of a state.
 abbrev pub stateSize : ℕ
@@ -51,9 +52,9 @@ stateOf s =
       depth = depthIn s;
       elements = elementsIn s;
       rootClosed = eqb (rootIn s) 1;
-      presence = listed 64 (bitAt (presenceIn s));
-      openWords = listed 64 (λ i. wordAt 8 s (openPlace i));
-      lastWords = listed 64 (λ i. wordAt 8 s (lastPlace i));
+      presence = listed levelsMost (bitAt (presenceIn s));
+      openWords = listed levelsMost (λ i. wordAt 8 s (openPlace i));
+      lastWords = listed levelsMost (λ i. wordAt 8 s (lastPlace i));
     }
 
 -- A state that is refused by 11: it has not 1,040 bytes; its depth is above 64 or above its elements, or these are above 4,096; root
@@ -61,16 +62,16 @@ stateOf s =
 unfoldable pub bad : List ℕ → Bool
 bad s =
     not (eqb (length s) stateSize)
-    || (ltb 64 (depthIn s) || ltb (elementsIn s) (depthIn s) || ltb 4096 (elementsIn s)
+    || (ltb levelsMost (depthIn s) || ltb (elementsIn s) (depthIn s) || ltb elementsMost (elementsIn s)
     || ltb 1 (rootIn s) || (eqb (rootIn s) 1 && not (eqb (depthIn s) 0))
     || not (eqb (getD s 6 0) 0 && eqb (getD s 7 0) 0))
 
 -- The same as a proposition, clause by clause: the state passes the test.
 pub record Good (s : List ℕ) : Type 0 where
   pub long : length s ≡ stateSize
-  pub shallow : depthIn s ≤ 64
+  pub shallow : depthIn s ≤ levelsMost
   pub within : depthIn s ≤ elementsIn s
-  pub few : elementsIn s ≤ 4096
+  pub few : elementsIn s ≤ elementsMost
   pub flag : rootIn s ≤ 1
   pub shut : rootIn s ≡ 1 → depthIn s ≡ 0
   pub spare : (getD s 6 0 ≡ 0) × (getD s 7 0 ≡ 0)

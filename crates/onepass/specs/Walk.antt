@@ -18,6 +18,7 @@ use Rattle.records.specs.Tags.{opens}
 use Rattle.records.specs.declared.rule.Entry.{Entry}
 use Rattle.onepass.specs.declared.walk.Walk.{Walk}
 use Rattle.onepass.specs.declared.walk.Ahead.{Ahead}
+use Rattle.records.specs.Limits.{levelsMost}
 
 abbrev pub unreadWalk : Walk
 unreadWalk = record { answer = Refused 1 0; ahead = false; word = 0 }
@@ -38,8 +39,8 @@ pub record Asked (rule : List ℕ) (r : Ahead) : Type 0 where
 
 -- The words that an opening reads of a state that is not bad, at a depth below 64.
 pub record WordsRead (s : List ℕ) (p q : ℕ) : Type 0 where
-  pub parent-is : bad s ≡ false → depthIn s < 64 → p ≡ cond (eqb (depthIn s) 0) 0 (wordAt 8 s (openPlace (pred (depthIn s))))
-  pub sibling-is : bad s ≡ false → depthIn s < 64 → q ≡ cond (bitAt (presenceIn s) (depthIn s)) (wordAt 8 s (lastPlace (depthIn s))) 0
+  pub parent-is : bad s ≡ false → depthIn s < levelsMost → p ≡ cond (eqb (depthIn s) 0) 0 (wordAt 8 s (openPlace (pred (depthIn s))))
+  pub sibling-is : bad s ≡ false → depthIn s < levelsMost → q ≡ cond (bitAt (presenceIn s) (depthIn s)) (wordAt 8 s (lastPlace (depthIn s))) 0
 
 -- An opening with n entries that give the word w where it is taken.
 pub record OpenStep (n : ℕ) (ahead : Bool) (w : ℕ) (s : List ℕ) (label : ℕ) (r : StepReply) (after : List ℕ) : Type 0 where

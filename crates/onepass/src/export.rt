@@ -8,7 +8,9 @@ ghost use mathlib.Core.List.{List};
 ghost use Rattle.records.specs.declared.rule.Entry.{Entry};
 ghost use Rattle.onepass.specs.Walk.{WordsRead, OpenStep};
 ghost use Rattle.onepass.specs.Step.{Started, Opened, Closed, Answered, callNumber, looksAhead};
+ghost use Rattle.records.specs.Limits.{entriesMost};
 use crate::bytes::number_at;
+use crate::state::STATE_BYTES;
 use crate::state::bad_state;
 use crate::state::parent_word;
 use crate::state::sibling_word;
@@ -18,6 +20,7 @@ use crate::walk::ask_rule;
 use crate::walk::walk_rule;
 use bits::bit_at;
 use records::answer::Answer;
+use records::limits::LEVELS_MOST;
 use records::report::close_fault;
 use records::report::open_fault;
 
@@ -57,7 +60,7 @@ fn words_of(state: &[u8]) -> Words
         };
     }
     let d = number_at(state, 0);
-    if 64 <= d {
+    if LEVELS_MOST <= d {
         return Words {
             parent: 0,
             sibling: 0,
@@ -104,7 +107,7 @@ fn close_number(ahead: bool, state: &[u8]) -> u32
 
 // Opens with an accepted rule of n entries, which give the word w.
 fn open_step(n: usize, ahead: bool, w: u64, state: &mut [u8], label: usize) -> StepReply
-    requires { ⌜ (1 ≤ n) × (n ≤ 64) ⌝ }
+    requires { ⌜ (1 ≤ n) × (n ≤ entriesMost) ⌝ }
     ensures { λ r. ⌜ OpenStep n «ahead» w (now (state .entry)) label r (now (state .exit)) ⌝ }
 {
     let number = open_number(ahead, state, label);
@@ -151,7 +154,7 @@ fn close_step(ahead: bool, state: &mut [u8]) -> StepReply
 pub extern "C" fn pz_start(state: &mut [u8]) -> StepReply
     ensures { λ r. ⌜ Started (now (state .entry)) r (now (state .exit)) ⌝ }
 {
-    if state.len() != 1040 {
+    if state.len() != STATE_BYTES {
         return StepReply {
             number: 11,
             place: 0,

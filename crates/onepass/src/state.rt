@@ -8,26 +8,32 @@ ghost use Rattle.meaning.specs.Marks.{bitAt};
 ghost use Rattle.onepass.specs.Bytes.{wordAt, putAt, withBit};
 ghost use Rattle.onepass.specs.State.{stateSize, presenceIn, openPlace, lastPlace, bad};
 ghost use Rattle.onepass.specs.Step.{cleared, openedBytes, marked, rooted, closedBytes};
+ghost use Rattle.records.specs.Limits.{elementsMost, levelsMost};
 use crate::bytes::number_at;
 use crate::bytes::put_number;
 use crate::bytes::put_word;
 use crate::bytes::word_at;
 use crate::word::with_bit;
 use bits::bit_at;
+use records::limits::ELEMENTS_MOST;
+use records::limits::LEVELS_MOST;
+
+// How many bytes a state has.
+pub(crate) const STATE_BYTES: usize = 1040;
 
 // Whether the state is bad.
 pub(crate) fn bad_state(s: &[u8]) -> bool
     ensures { λ r. ⌜ r ≡ bad (now (s .entry)) ⌝ }
 {
-    if s.len() != 1040 {
+    if s.len() != STATE_BYTES {
         return true;
     }
     let depth = number_at(s, 0);
     let elements = number_at(s, 2);
     let root = number_at(s, 4);
-    (64 < depth)
+    (LEVELS_MOST < depth)
         | (elements < depth)
-        | (4096 < elements)
+        | (ELEMENTS_MOST < elements)
         | (1 < root)
         | ((root == 1) & (depth != 0))
         | !((s[6] == 0) & (s[7] == 0))
@@ -35,7 +41,7 @@ pub(crate) fn bad_state(s: &[u8]) -> bool
 
 // The parent's word of an element that opens at depth d: open word d - 1, and 0 where there is none.
 pub(crate) fn parent_word(s: &[u8], d: usize) -> u64
-    requires { ⌜ (length (now s) ≡ stateSize) × (d ≤ 64) ⌝ }
+    requires { ⌜ (length (now s) ≡ stateSize) × (d ≤ levelsMost) ⌝ }
     ensures { λ r. ⌜ r ≡ cond (eqb d 0) 0 (wordAt 8 (now (s .entry)) (openPlace (pred d))) ⌝ }
 {
     if d == 0 {
@@ -47,7 +53,7 @@ pub(crate) fn parent_word(s: &[u8], d: usize) -> u64
 
 // The previous sibling's word: last word d, and 0 where presence bit d is 0.
 pub(crate) fn sibling_word(s: &[u8], d: usize) -> u64
-    requires { ⌜ (length (now s) ≡ stateSize) × (d < 64) ⌝ }
+    requires { ⌜ (length (now s) ≡ stateSize) × (d < levelsMost) ⌝ }
     ensures { λ r. ⌜ r ≡ cond (bitAt (presenceIn (now (s .entry))) d) (wordAt 8 (now (s .entry)) (lastPlace d)) 0 ⌝ }
 {
     let last = word_at(s, 528 + 8 * d);
@@ -67,7 +73,7 @@ fn clear_presence(s: &mut [u8], d: usize)
 
 // Stores what opening at depth d writes.
 pub(crate) fn store_opening(s: &mut [u8], d: usize, elements: usize, w: u64)
-    requires { ⌜ (length (now s) ≡ stateSize) × (d < 64) × (elements < 4096) ⌝ }
+    requires { ⌜ (length (now s) ≡ stateSize) × (d < levelsMost) × (elements < elementsMost) ⌝ }
     ensures { λ _. ⌜ now (s .exit) ≡ openedBytes d elements w (now (s .entry)) ⌝ }
 {
     put_word(s, 16 + 8 * d, w);
@@ -78,7 +84,7 @@ pub(crate) fn store_opening(s: &mut [u8], d: usize, elements: usize, w: u64)
 
 // Sets presence bit d.
 fn mark_presence(s: &mut [u8], d: usize)
-    requires { ⌜ (length (now s) ≡ stateSize) × (d < 64) ⌝ }
+    requires { ⌜ (length (now s) ≡ stateSize) × (d < levelsMost) ⌝ }
     ensures { λ _. ⌜ now (s .exit) ≡ marked d (now (s .entry)) ⌝ }
 {
     let presence = word_at(s, 8);
@@ -97,7 +103,7 @@ fn close_root(s: &mut [u8], d: usize)
 
 // Stores what closing writes that leaves depth d.
 pub(crate) fn store_closing(s: &mut [u8], d: usize)
-    requires { ⌜ (length (now s) ≡ stateSize) × (d < 64) ⌝ }
+    requires { ⌜ (length (now s) ≡ stateSize) × (d < levelsMost) ⌝ }
     ensures { λ _. ⌜ now (s .exit) ≡ closedBytes d (now (s .entry)) ⌝ }
 {
     let w = word_at(s, 16 + 8 * d);

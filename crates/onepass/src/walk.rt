@@ -7,6 +7,7 @@ use crate::word::add_bit;
 use records::answer::Answer;
 use records::kind::looks_back;
 use records::kind::row_of;
+use records::limits::RULE_MOST;
 use records::rule::take_entry;
 
 // What a walk gives: the rule's answer; of the entries read, whether one looks ahead, and the word.
@@ -35,7 +36,7 @@ pub(crate) fn walk_rule(rule: &[u8], label: usize, p: u64, q: u64) -> Walk
     if rule.len() < 1 {
         return unread();
     }
-    if 512 < rule.len() {
+    if RULE_MOST < rule.len() {
         return unread();
     }
     let mut at: usize = 0;
@@ -91,7 +92,7 @@ pub(crate) fn ask_rule(rule: &[u8]) -> Ahead
     if rule.len() < 1 {
         return unasked();
     }
-    if 512 < rule.len() {
+    if RULE_MOST < rule.len() {
         return unasked();
     }
     let mut at: usize = 0;

@@ -1,12 +1,12 @@
 // A word with one bit more, or another.
 ghost use mathlib.Core.Path.{_≡_};
 ghost use Prim.Native.Nat.{_+_, _*_, _^_, _<_};
-ghost use Rattle.meaning.specs.Marks.{bit};
+ghost use Rattle.meaning.specs.Marks.{bit, wordBits};
 ghost use Rattle.onepass.specs.Bytes.{withBit};
 
 // A word of the bits below i, with bit i added.
 pub(crate) fn add_bit(w: u64, i: usize, on: bool) -> u64
-    requires { ⌜ (i < 64) × (w < 2 ^ i) ⌝ }
+    requires { ⌜ (i < wordBits) × (w < 2 ^ i) ⌝ }
     ensures { λ r. ⌜ r ≡ bit on * 2 ^ i + w ⌝ }
 {
     w | ((on as u64) << i)
@@ -14,7 +14,7 @@ pub(crate) fn add_bit(w: u64, i: usize, on: bool) -> u64
 
 // A word with bit i set or cleared.
 pub(crate) fn with_bit(w: u64, i: usize, on: bool) -> u64
-    requires { ⌜ i < 64 ⌝ }
+    requires { ⌜ i < wordBits ⌝ }
     ensures { λ r. ⌜ r ≡ withBit i on w ⌝ }
 {
     w - (((w >> i) % 2) << i) + ((on as u64) << i)

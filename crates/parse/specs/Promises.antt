@@ -12,7 +12,7 @@ use Rattle.records.specs.declared.kind.Axis.{Axis}
 use Rattle.paths.specs.Syntax.{Test, Path, Step, along, along*, passing, while, GoodT, GoodP, GoodS}
 use Rattle.paths.specs.Spelling.{greater, sign, axisWord, notWord, orWord, gap, piecesT, piecesP, piecesS, textOf, Text, StopsAt}
 use Rattle.paths.specs.Translation.{neighbourKind, tableOf}
-use Rattle.paths.specs.Answer.{TextOf, bytesFor, Gets}
+use Rattle.paths.specs.Answer.{textMost, TextOf, bytesFor, Gets}
 use Rattle.paths.proofs.Machine.{Expected, test, lettered, alternative, number, path, axis, afterStep, byte, stopped, run}
 use Rattle.paths.proofs.Ahead.{wordyT, wordyS, ahead}
 use Rattle.paths.proofs.Count.{weightT, weightP, weightS, recordLength}
@@ -30,6 +30,7 @@ use Rattle.parse.specs.declared.tree.Parsed.the-variants.{Done, Bad}
 use Rattle.parse.specs.declared.tree.Outcome.{Outcome}
 use Rattle.parse.specs.declared.tree.Outcome.the-variants as O
 use Rattle.parse.specs.Rows.{noRows, noteRow, formOf, formEntries, formBytes, leafTree, testEntries, testBytes, noteT, noteP, noteS}
+use Rattle.records.specs.Limits.{labelMost}
 
 -- ---- bytes, words and numbers
 
@@ -57,7 +58,7 @@ abbrev pub NumberAt : (s : List ℕ) (at digits value : ℕ) → Type 0
 NumberAt s at zero n = Stops false number (drop at s) (drop at s)
 NumberAt s at (suc k) n =
     (at + suc k ≤ length s) × Reads false number (drop at s) true (drop (at + suc k) s)
-    × (1 ≤ n) × (n ≤ 999) × (drop at s ≡ decimal n ++ drop (at + suc k) s)
+    × (1 ≤ n) × (n ≤ labelMost) × (drop at s ≡ decimal n ++ drop (at + suc k) s)
 
 -- ---- trees
 
@@ -214,7 +215,7 @@ leafBytes zero = 4
 leafBytes (suc n) = 6
 
 abbrev pub Small : Parsed → Type 0
-Small (Done e v n b) = (n ≤ 1024) × (b ≤ 8192)
+Small (Done e v n b) = (n ≤ textMost) × (b ≤ 8 * textMost)
 Small (Bad p) = Unit {0}
 
 abbrev pub Ends : List ℕ → Parsed → Type 0

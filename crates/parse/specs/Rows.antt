@@ -25,14 +25,15 @@ use lib.Seq.{sets}
 use Rattle.paths.specs.Syntax.{Test, everywhere, labelled, except, either, begins, Path, only, _then_, Step, along, along*, passing, while}
 use Rattle.paths.specs.Translation.{neighbourKind, untilKind}
 use Rattle.paths.proofs.Count.{weightT, weightP, weightS, recordLength}
+use Rattle.records.specs.Limits.{entriesMost}
 
 -- A table without rows.
 abbrev pub noRows : List ℕ
-noRows = replicate 192 0
+noRows = replicate (3 * entriesMost) 0
 
 -- The table with row n filled, where there is such a row.
 unfoldable pub noteRow : List ℕ → (n form a b : ℕ) → List ℕ
-noteRow rows n form a b = cond (leb n 64) (sets rows (3 * n - 3) (form ∷ a ∷ b ∷ [])) rows
+noteRow rows n form a b = cond (leb n entriesMost) (sets rows (3 * n - 3) (form ∷ a ∷ b ∷ [])) rows
 
 -- The form of a step.
 unfoldable pub formOf : Step → ℕ

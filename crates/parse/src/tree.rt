@@ -8,6 +8,7 @@ ghost use lib.ListN.{length, drop};
 ghost use Rattle.parse.specs.declared.tree.Parsed.the-variants.{Done};
 ghost use Rattle.parse.specs.Rows.{noteRow, formEntries, formBytes, leafTree, noteT};
 ghost use Rattle.parse.specs.Promises.{headOf, leafBytes, Small, Ends, Shut, Closing, Excepted, EitherOf, StepOf, TestParsed, PathParsed, StepParsed, Read, TreeRead};
+ghost use Rattle.paths.specs.Answer.{textMost};
 use crate::begins::Begin;
 use crate::begins::Start;
 use crate::begins::begins_at;
@@ -16,6 +17,14 @@ use crate::begins::start_at;
 use crate::words::Word;
 use crate::words::byte_at;
 use crate::words::word_at;
+
+// How many bytes a text has at most.
+const TEXT_MOST: usize = 1024;
+
+// There is a row for each entry that a rule may have, with three places each.
+const ROWS: u16 = 64;
+
+pub const ROW_PLACES: usize = 192;
 
 // A test, a path or a step: its end, whether a word or number ends there, its entries, its rule's bytes; or
 // the place where it stops.
@@ -58,11 +67,11 @@ fn own_bytes(form: u16) -> u16
 }
 
 // Fills row n, where there is such a row: a text with more entries is refused, and its rows are not read.
-fn note_row(rows: &mut [u16; 192], n: u16, form: u16, a: u16, b: u16)
+fn note_row(rows: &mut [u16; ROW_PLACES], n: u16, form: u16, a: u16, b: u16)
     requires { ⌜ 1 ≤ n ⌝ }
     ensures { λ _. ⌜ now (rows .exit) ≡ noteRow (now (rows .entry)) n form a b ⌝ }
 {
-    if n <= 64 {
+    if n <= ROWS {
         let at = 3 * (n as usize) - 3;
         rows[at] = form;
         rows[at + 1] = a;
@@ -73,8 +82,8 @@ fn note_row(rows: &mut [u16; 192], n: u16, form: u16, a: u16, b: u16)
 // ---- what is made of a part
 
 // `true` where the label is 0, else `label N`, which ends at e.
-fn leaf(e: usize, label: u16, k: u16, rows: &mut [u16; 192]) -> Parsed
-    requires { ⌜ (e ≤ 1024) × (k ≤ 1024) ⌝ }
+fn leaf(e: usize, label: u16, k: u16, rows: &mut [u16; ROW_PLACES]) -> Parsed
+    requires { ⌜ (e ≤ textMost) × (k ≤ textMost) ⌝ }
     ensures { λ r. ⌜ (r ≡ Done e true 1 (leafBytes label)) × (now (rows .exit) ≡ noteT (leafTree label) k (now (rows .entry))) ⌝ }
 {
     if label == 0 {
@@ -86,8 +95,8 @@ fn leaf(e: usize, label: u16, k: u16, rows: &mut [u16; 192]) -> Parsed
 }
 
 // `not`, and the test p.
-fn except(p: Parsed, k: u16, rows: &mut [u16; 192]) -> Parsed
-    requires { ⌜ Small p × (k ≤ 1024) ⌝ }
+fn except(p: Parsed, k: u16, rows: &mut [u16; ROW_PLACES]) -> Parsed
+    requires { ⌜ Small p × (k ≤ textMost) ⌝ }
     ensures { λ r. ⌜ Excepted p k (now (rows .entry)) r (now (rows .exit)) ⌝ }
 {
     match p {
@@ -100,8 +109,8 @@ fn except(p: Parsed, k: u16, rows: &mut [u16; 192]) -> Parsed
 }
 
 // `(`, a left with n entries and b bytes that ends with entry k, ` or`, and the right p.
-fn either_of(p: Parsed, k: u16, n: u16, b: u16, rows: &mut [u16; 192]) -> Parsed
-    requires { ⌜ Small p × (k ≤ 1024) × (n ≤ 1024) × (b ≤ 8192) ⌝ }
+fn either_of(p: Parsed, k: u16, n: u16, b: u16, rows: &mut [u16; ROW_PLACES]) -> Parsed
+    requires { ⌜ Small p × (k ≤ textMost) × (n ≤ textMost) × (b ≤ 8192) ⌝ }
     ensures { λ r. ⌜ EitherOf p k n b (now (rows .entry)) r (now (rows .exit)) ⌝ }
 {
     match p {
@@ -115,8 +124,8 @@ fn either_of(p: Parsed, k: u16, n: u16, b: u16, rows: &mut [u16; 192]) -> Parsed
 
 // A step of a form, behind k entries. Its test is p, of no entries where it has none; the step before
 // it in its path is in row `before`.
-fn step_of(p: Parsed, k: u16, form: u16, before: u16, rows: &mut [u16; 192]) -> Parsed
-    requires { ⌜ Small p × (k ≤ 1024) ⌝ }
+fn step_of(p: Parsed, k: u16, form: u16, before: u16, rows: &mut [u16; ROW_PLACES]) -> Parsed
+    requires { ⌜ Small p × (k ≤ textMost) ⌝ }
     ensures { λ r. ⌜ StepOf p k form before (now (rows .entry)) r (now (rows .exit)) ⌝ }
 {
     match p {
@@ -142,7 +151,7 @@ fn closing(p: Parsed) -> Parsed
 
 // The part, closed by a word of signs.
 fn shut(s: &[u8], p: Parsed, word: &[u8]) -> Parsed
-    requires { ⌜ Ends (now s) p × (length (now s) ≤ 1024) ⌝ }
+    requires { ⌜ Ends (now s) p × (length (now s) ≤ textMost) ⌝ }
     ensures { λ r. ⌜ Shut (now (word .entry)) (now (s .entry)) p r ⌝ }
 {
     match p {
@@ -156,8 +165,8 @@ fn shut(s: &[u8], p: Parsed, word: &[u8]) -> Parsed
 
 // ---- the parsers
 
-fn test(s: &[u8], at: usize, after: bool, k: u16, rows: &mut [u16; 192]) -> Parsed
-    requires { ⌜ (at ≤ length (now s)) × (length (now s) ≤ 1024) × (k ≤ at) ⌝ }
+fn test(s: &[u8], at: usize, after: bool, k: u16, rows: &mut [u16; ROW_PLACES]) -> Parsed
+    requires { ⌜ (at ≤ length (now s)) × (length (now s) ≤ textMost) × (k ≤ at) ⌝ }
     ensures { λ r. ⌜ TestParsed after (now (s .entry)) at k (now (rows .entry)) r (now (rows .exit)) ⌝ }
 {
     match begins_at(s, at, after) {
@@ -173,8 +182,8 @@ fn test(s: &[u8], at: usize, after: bool, k: u16, rows: &mut [u16; 192]) -> Pars
 }
 
 // (TEST or TEST)
-fn either(s: &[u8], at: usize, k: u16, rows: &mut [u16; 192]) -> Parsed
-    requires { ⌜ (at ≤ length (now s)) × (length (now s) ≤ 1024) × (k ≤ at) × (headOf (drop at (now s)) ≡ 40) ⌝ }
+fn either(s: &[u8], at: usize, k: u16, rows: &mut [u16; ROW_PLACES]) -> Parsed
+    requires { ⌜ (at ≤ length (now s)) × (length (now s) ≤ textMost) × (k ≤ at) × (headOf (drop at (now s)) ≡ 40) ⌝ }
     ensures { λ r. ⌜ ((w : Bool) → TestParsed w (now (s .entry)) at k (now (rows .entry)) r (now (rows .exit))) ⌝ }
 {
     match test(s, at + 1, false, k, rows) {
@@ -191,8 +200,8 @@ fn either(s: &[u8], at: usize, k: u16, rows: &mut [u16; 192]) -> Parsed
 
 // Steps with `/` between them, and `>`. A loop and not a call for each step, so that a long path needs
 // no more stack than a short one.
-fn path(s: &[u8], at: usize, k: u16, rows: &mut [u16; 192]) -> Parsed
-    requires { ⌜ (at ≤ length (now s)) × (length (now s) ≤ 1024) × (k ≤ at) ⌝ }
+fn path(s: &[u8], at: usize, k: u16, rows: &mut [u16; ROW_PLACES]) -> Parsed
+    requires { ⌜ (at ≤ length (now s)) × (length (now s) ≤ textMost) × (k ≤ at) ⌝ }
     ensures { λ r. ⌜ PathParsed (now (s .entry)) at k (now (rows .entry)) r (now (rows .exit)) ⌝ }
 {
     let mut from = at;
@@ -221,8 +230,8 @@ fn path(s: &[u8], at: usize, k: u16, rows: &mut [u16; 192]) -> Parsed
     }
 }
 
-fn step(s: &[u8], at: usize, k: u16, before: u16, rows: &mut [u16; 192]) -> Parsed
-    requires { ⌜ (at ≤ length (now s)) × (length (now s) ≤ 1024) × (k ≤ at) ⌝ }
+fn step(s: &[u8], at: usize, k: u16, before: u16, rows: &mut [u16; ROW_PLACES]) -> Parsed
+    requires { ⌜ (at ≤ length (now s)) × (length (now s) ≤ textMost) × (k ≤ at) ⌝ }
     ensures { λ r. ⌜ StepParsed (now (s .entry)) at k before (now (rows .entry)) r (now (rows .exit)) ⌝ }
 {
     match start_at(s, at) {
@@ -242,8 +251,8 @@ fn step(s: &[u8], at: usize, k: u16, before: u16, rows: &mut [u16; 192]) -> Pars
 }
 
 // A byte string of 1 to 1,024 bytes, read from its first byte.
-fn read_sized(s: &[u8], rows: &mut [u16; 192]) -> Outcome
-    requires { ⌜ length (now s) ≤ 1024 ⌝ }
+fn read_sized(s: &[u8], rows: &mut [u16; ROW_PLACES]) -> Outcome
+    requires { ⌜ length (now s) ≤ textMost ⌝ }
     ensures { λ r. ⌜ Read (now (s .entry)) (now (rows .entry)) r (now (rows .exit)) ⌝ }
 {
     match test(s, 0, false, 0, rows) {
@@ -259,17 +268,17 @@ fn read_sized(s: &[u8], rows: &mut [u16; 192]) -> Outcome
 }
 
 // Reads a byte string as a text, and leaves the rows of its tree, all zero where there is none.
-pub fn read_tree(s: &[u8], rows: &mut [u16; 192]) -> Outcome
+pub fn read_tree(s: &[u8], rows: &mut [u16; ROW_PLACES]) -> Outcome
     ensures { λ r. ⌜ TreeRead (now (s .entry)) r (now (rows .exit)) ⌝ }
 {
-    *rows = [0u16; 192];
-    if (s.len() == 0) | (1024 < s.len()) {
+    *rows = [0u16; ROW_PLACES];
+    if (s.len() == 0) | (TEXT_MOST < s.len()) {
         return Outcome::Stopped(0);
     }
     match read_sized(s, rows) {
         Outcome::Text(n, b) => Outcome::Text(n, b),
         Outcome::Stopped(p) => {
-            *rows = [0u16; 192];
+            *rows = [0u16; ROW_PLACES];
             Outcome::Stopped(p)
         }
     }

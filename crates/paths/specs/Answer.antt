@@ -5,18 +5,16 @@ use Prim.Native.Nat.{ℕ, _≤_, _<_}
 use mathlib.Core.Path.{_≡_}
 use mathlib.Core.List.{List, []}
 use lib.ListN.{length}
+use Rattle.records.specs.Limits.{entriesMost}
 use Rattle.grammar.specs.When.{Sized}
 use Rattle.grammar.specs.Rules.{ruleBytes}
 use Rattle.paths.specs.Syntax.{Test, GoodT}
 use Rattle.paths.specs.Spelling.{textOf, Text, StopsAt}
 use Rattle.paths.specs.Translation.{tableOf}
 
--- How many bytes a text has at most, and how many entries a rule.
+-- How many bytes a text has at most.
 abbrev pub textMost : ℕ
 textMost = 1024
-
-abbrev pub entriesMost : ℕ
-entriesMost = 64
 
 -- The string has 1 to 1,024 bytes and is the text of t.
 pub record TextOf (s : List ℕ) (t : Test) : Type 0 where

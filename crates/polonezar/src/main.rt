@@ -7,7 +7,7 @@
 fn main() {
     let mut input = io::large_buffer();
     let n = io::read_full(0, &mut input);
-    let mut out = [0u8; 81920];
+    let mut out = [0u8; text::put::TEXT_BYTES];
     let m = judge::judge::put_record(&input[..n], &mut out);
     if !io::write_all(1, &out[..m]) {
         io::write_all(

@@ -1,4 +1,5 @@
 -- The readers' specification. Read in this order.
+pub mod Limits
 pub mod Bytes
 pub mod Kinds
 pub mod Frame

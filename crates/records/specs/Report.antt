@@ -12,6 +12,7 @@ use Rattle.records.specs.Frame.{kindAt, brokenAt, startOf, stopsAt}
 use Rattle.records.specs.Tags.{Tag, opens, closes, depth, opened, tagFault}
 use Rattle.records.specs.declared.answer.Answer.{Answer}
 use Rattle.records.specs.declared.answer.Answer.the-variants.{Accepted, Refused}
+use Rattle.records.specs.Limits.{reportMost}
 
 -- The length of a report record of each kind; 0 for a number that is no kind.
 unfoldable pub reportLength : ℕ → ℕ
@@ -57,7 +58,7 @@ lastRecord s = first (reportStops s) (length s)
 
 -- Row 5 comes first; then the first record in byte order that is at fault decides; where none is, the end.
 unfoldable pub reportAnswer : List ℕ → Answer
-reportAnswer s = cond (ltb (length s) 1 || ltb 40960 (length s)) (Refused 5 0) (reportEnd s (lastRecord s))
+reportAnswer s = cond (ltb (length s) 1 || ltb reportMost (length s)) (Refused 5 0) (reportEnd s (lastRecord s))
 
 -- The report's tags, up to where reading stops.
 abbrev pub tagsOf : List ℕ → List Tag

@@ -18,6 +18,7 @@ use Rattle.records.specs.declared.kind.Numbers.the-variants.{Nothing, La
 use Rattle.records.specs.declared.kind.Row.{Row}
 use Rattle.records.specs.declared.rule.Entry.{Entry}
 use Rattle.records.specs.declared.rule.Taken.{Taken}
+use Rattle.records.specs.Limits.{ruleMost, entriesMost}
 
 -- The entry whose record, of this row, stands at an offset: its kind, and the numbers of its body, 0 where it has none.
 unfoldable pub entryOf : Row → List ℕ → ℕ → Entry
@@ -40,7 +41,7 @@ misdirected Entries arguments own e = leb own (e .a) || (leb 2 arguments && leb 
 
 -- Rows 4, 2 and 3 at the record at an offset, as entry `own`: a 65th entry begins; the record is faulty; its numbers are misdirected.
 abbrev pub row4 : ℕ → Bool
-row4 own = leb 64 own
+row4 own = leb entriesMost own
 
 abbrev pub row2 : List ℕ → ℕ → Bool
 row2 s at = brokenAt ruleLength s at
@@ -76,4 +77,4 @@ ruleEnd s i = cond (eqb (startOf s i) (length s)) (Accepted i) (Refused (ruleFau
 
 -- Row 1 comes first; then the first record in byte order that is at fault decides, and where none is the rule is accepted.
 unfoldable pub ruleAnswer : List ℕ → Answer
-ruleAnswer s = cond (ltb (length s) 1 || ltb 512 (length s)) (Refused 1 0) (ruleEnd s (first (ruleStops s) 64))
+ruleAnswer s = cond (ltb (length s) 1 || ltb ruleMost (length s)) (Refused 1 0) (ruleEnd s (first (ruleStops s) entriesMost))

@@ -16,6 +16,7 @@ use Rattle.records.specs.Tags.{Tag, labels, levels}
 use Rattle.records.specs.declared.answer.Answer.{Answer}
 use Rattle.records.specs.declared.answer.Answer.the-variants.{Accepted}
 use Rattle.records.specs.declared.rule.Entry.{Entry}
+use Rattle.records.specs.Limits.{ruleMost, entriesMost, reportMost}
 
 -- The entries of the first n records.
 unfoldable pub entriesBefore : List ℕ → ℕ → List Entry
@@ -28,7 +29,7 @@ entriesOf s = entriesBefore s (countOf (ruleAnswer s))
 
 -- The entries up to where reading stops; a rule of no byte or of too many is not read.
 unfoldable pub entriesRead : List ℕ → List Entry
-entriesRead s = cond (ltb (length s) 1 || ltb 512 (length s)) [] (entriesBefore s (first (ruleStops s) 64))
+entriesRead s = cond (ltb (length s) 1 || ltb ruleMost (length s)) [] (entriesBefore s (first (ruleStops s) entriesMost))
 
 -- The labels of an accepted report's elements in order of opening, and their levels; none of a refused one.
 unfoldable pub labelsOf : List ℕ → List ℕ
@@ -53,7 +54,7 @@ bOf e = e .b
 
 -- The tags up to where reading stops; a report of no byte or of too many is not read.
 unfoldable pub tagsRead : List ℕ → List Tag
-tagsRead s = cond (ltb (length s) 1 || ltb 40960 (length s)) [] (tagsOf s)
+tagsRead s = cond (ltb (length s) 1 || ltb reportMost (length s)) [] (tagsOf s)
 
 -- What reading the elements answers and leaves in lent tables of any length: one walk, so that a refused report leaves the elements
 -- opened before its fault. A table that is too short has those that it has room for; an accepted report has ten bytes an element.

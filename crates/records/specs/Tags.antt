@@ -6,6 +6,7 @@ use mathlib.Core.Bool.{Bool, cond, _||_}
 use mathlib.Core.List.{List, [], _∷_}
 use lib.Dec.{leb, ltb, eqb}
 use lib.ListN.{length}
+use Rattle.records.specs.Limits.{labelMost, elementsMost, levelsMost}
 
 -- A tag opens an element with a label, or closes the innermost open element.
 pub data Tag : Type 0 where
@@ -42,12 +43,12 @@ opened ts = length (labels ts)
 
 -- A label outside 1..999.
 abbrev pub outside : ℕ → Bool
-outside label = ltb label 1 || ltb 999 label
+outside label = ltb label 1 || ltb labelMost label
 
 -- The number that a tag gets where so many elements are open and so many have been opened, in the order 6, 7, 8; 0 where it has no
 -- fault. Row 6: a label outside 1..999. Row 7: an opening after the root closed, or a closing with nothing open. Row 8: an opening
 -- at level 64, or of a 4,097th element.
 unfoldable pub tagFault : ℕ → ℕ → Bool → Tag → ℕ
 tagFault depth elements rootClosed (opens label) =
-    cond (outside label) 6 (cond rootClosed 7 (cond (leb 64 depth || leb 4096 elements) 8 0))
+    cond (outside label) 6 (cond rootClosed 7 (cond (leb levelsMost depth || leb elementsMost elements) 8 0))
 tagFault depth elements rootClosed closes = cond (eqb depth 0) 7 0

@@ -8,6 +8,10 @@ ghost use Rattle.records.specs.Frame.{kindAt};
 ghost use Rattle.records.specs.Tags.{opens, closes, tagFault};
 ghost use Rattle.records.specs.Report.{recordFault, endOf, reportAnswer};
 use crate::answer::Answer;
+use crate::limits::ELEMENTS_MOST;
+use crate::limits::LABEL_MOST;
+use crate::limits::LEVELS_MOST;
+use crate::limits::REPORT_MOST;
 use crate::number::number_at;
 
 // The number that an opening gets where so many elements are open and so many have been opened; 0
@@ -15,13 +19,13 @@ use crate::number::number_at;
 pub fn open_fault(depth: usize, elements: usize, root_closed: bool, label: usize) -> u32
     ensures { λ r. ⌜ r ≡ tagFault depth elements «root_closed» (opens label) ⌝ }
 {
-    if (label < 1) | (999 < label) {
+    if (label < 1) | (LABEL_MOST < label) {
         return 6;
     }
     if root_closed {
         return 7;
     }
-    if (64 <= depth) | (4096 <= elements) {
+    if (LEVELS_MOST <= depth) | (ELEMENTS_MOST <= elements) {
         return 8;
     }
     0
@@ -111,7 +115,7 @@ pub fn read_report(report: &[u8]) -> Answer
     if report.len() < 1 {
         return Answer::Refused(5, 0);
     }
-    if 40960 < report.len() {
+    if REPORT_MOST < report.len() {
         return Answer::Refused(5, 0);
     }
     let mut at: usize = 0;

@@ -11,6 +11,9 @@ use crate::frame::frame_of;
 use crate::kind::Numbers;
 use crate::kind::Row;
 use crate::kind::row_of;
+use crate::limits::ENTRIES_MOST;
+use crate::limits::LABEL_MOST;
+use crate::limits::RULE_MOST;
 use crate::number::number_at;
 
 // An entry of a rule: its kind, and the numbers of its body, 0 where it has none. A label is `a`.
@@ -47,7 +50,7 @@ fn misdirects(numbers: Numbers, arguments: usize, own: usize, e: Entry) -> bool
 {
     match numbers {
         Numbers::Nothing => false,
-        Numbers::Label => (e.a < 1) | (999 < e.a),
+        Numbers::Label => (e.a < 1) | (LABEL_MOST < e.a),
         Numbers::Entries => (own <= e.a) | ((2 <= arguments) & (own <= e.b)),
     }
 }
@@ -97,7 +100,7 @@ fn whole_entry(row: Row, own: usize, e: Entry, at: usize, next: usize) -> Taken
 pub fn take_entry(s: &[u8], own: usize, at: usize) -> Taken
     ensures { λ r. ⌜ (r ≡ takenAt (now (s .entry)) own at) × (r .entry .kind < 65536) × (r .entry .a < 65536) × (r .entry .b < 65536) ⌝ }
 {
-    if 64 <= own {
+    if ENTRIES_MOST <= own {
         return faulty(4, at);
     }
     if s.len() < 4 {
@@ -121,7 +124,7 @@ pub fn read_rule(rule: &[u8]) -> Answer
     if rule.len() < 1 {
         return Answer::Refused(1, 0);
     }
-    if 512 < rule.len() {
+    if RULE_MOST < rule.len() {
         return Answer::Refused(1, 0);
     }
     let mut at: usize = 0;

@@ -4,8 +4,12 @@ ghost use mathlib.Core.Path.{_≡_};
 ghost use mathlib.Core.Bool.{cond};
 ghost use Prim.Native.Nat.{_<_};
 ghost use lib.ListN.{set};
+ghost use Rattle.records.specs.Limits.{entriesMost};
 ghost use Rattle.records.specs.Tables.{EntriesTaken, ElementsTaken};
 use crate::answer::Answer;
+use crate::limits::ENTRIES_MOST;
+use crate::limits::REPORT_MOST;
+use crate::limits::RULE_MOST;
 use crate::report::end_of;
 use crate::report::opens_at;
 use crate::report::record_fault;
@@ -49,7 +53,7 @@ pub fn read_elements(report: &[u8], labels: &mut [u16], levels: &mut [u16]) -> A
     if report.len() < 1 {
         return Answer::Refused(5, 0);
     }
-    if 40960 < report.len() {
+    if REPORT_MOST < report.len() {
         return Answer::Refused(5, 0);
     }
     let mut at: usize = 0;
@@ -90,11 +94,11 @@ fn put_numbers(
     a: usize,
     b: usize,
     i: usize,
-    kinds: &mut [u16; 64],
-    firsts: &mut [u16; 64],
-    seconds: &mut [u16; 64],
+    kinds: &mut [u16; ENTRIES_MOST],
+    firsts: &mut [u16; ENTRIES_MOST],
+    seconds: &mut [u16; ENTRIES_MOST],
 )
-    requires { ⌜ (kind < 65536) × (a < 65536) × (b < 65536) × (i < 64) ⌝ }
+    requires { ⌜ (kind < 65536) × (a < 65536) × (b < 65536) × (i < entriesMost) ⌝ }
     ensures { λ _. ⌜ now (kinds .exit) ≡ set (now (kinds .entry)) i kind ⌝ }
     ensures { λ _. ⌜ now (firsts .exit) ≡ set (now (firsts .entry)) i a ⌝ }
     ensures { λ _. ⌜ now (seconds .exit) ≡ set (now (seconds .entry)) i b ⌝ }
@@ -107,16 +111,16 @@ fn put_numbers(
 // Reads a rule, and puts its entries into the lent tables: one walk, which checks and fills.
 pub fn read_entries(
     rule: &[u8],
-    kinds: &mut [u16; 64],
-    firsts: &mut [u16; 64],
-    seconds: &mut [u16; 64],
+    kinds: &mut [u16; ENTRIES_MOST],
+    firsts: &mut [u16; ENTRIES_MOST],
+    seconds: &mut [u16; ENTRIES_MOST],
 ) -> Answer
     ensures { λ r. ⌜ EntriesTaken (now (rule .entry)) (now (kinds .entry)) (now (firsts .entry)) (now (seconds .entry)) r (now (kinds .exit)) (now (firsts .exit)) (now (seconds .exit)) ⌝ }
 {
     if rule.len() < 1 {
         return Answer::Refused(1, 0);
     }
-    if 512 < rule.len() {
+    if RULE_MOST < rule.len() {
         return Answer::Refused(1, 0);
     }
     let mut at: usize = 0;

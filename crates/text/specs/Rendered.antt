@@ -10,6 +10,7 @@ use lib.ListN.{length, getD}
 use lib.Seq.{sets}
 use Rattle.meaning.specs.Marks.{bitAt}
 use Rattle.text.specs.Text.{elementLines, acceptedText}
+use Rattle.records.specs.Limits.{elementsMost}
 
 -- How many bytes the buffer has.
 abbrev pub bufferSize : ℕ
@@ -36,7 +37,7 @@ verdictIn marks last k = bitAt (getD marks k 0) last
 
 -- The tables have 4,096 places: a larger number of elements counts as 4,096.
 unfoldable pub clamped : ℕ → ℕ
-clamped n = cond (ltb 4096 n) 4096 n
+clamped n = cond (ltb elementsMost n) elementsMost n
 
 -- The lines of the first n elements, from the tables of labels, levels and mark words.
 abbrev pub tableLines : (labels levels marks : List ℕ) (last n : ℕ) → List ℕ

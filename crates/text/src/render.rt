@@ -4,22 +4,25 @@ ghost use Prim.Native.Nat.{_+_, _*_, _≤_, _<_};
 ghost use lib.ListN.{length};
 ghost use Rattle.meaning.specs.Marks.{bit, bitAt};
 ghost use Rattle.text.specs.Text.{refusedLine, elementLine};
-ghost use Rattle.text.specs.Rendered.{Put, Rendered, clamped, tableLines, tableText};
+ghost use Rattle.text.specs.Rendered.{Put, Rendered, clamped, tableLines, tableText, bufferSize};
+ghost use Rattle.records.specs.Limits.{elementsMost};
+use crate::put::TEXT_BYTES;
 use crate::put::put_field;
 use crate::put::put_phrase;
 use crate::put::put_word;
 use bits::bit_at;
+use records::limits::ELEMENTS_MOST;
 
 // Puts an element's number, label, level and verdict.
 fn put_element(
-    out: &mut [u8; 81920],
+    out: &mut [u8; TEXT_BYTES],
     at: usize,
     element: usize,
     label: usize,
     level: usize,
     verdict: bool,
 ) -> usize
-    requires { ⌜ at + length (elementLine element label level verdict) ≤ 81920 ⌝ }
+    requires { ⌜ at + length (elementLine element label level verdict) ≤ bufferSize ⌝ }
     ensures { λ r. ⌜ Put (elementLine element label level verdict) (now (out .entry)) at r (now (out .exit)) ⌝ }
 {
     let a = put_field(out, at, element, b' ');
@@ -37,23 +40,23 @@ fn wide(x: u16) -> usize
 
 // How many elements the tables have, of so many.
 fn at_most(n: usize) -> usize
-    ensures { λ r. ⌜ (r ≡ clamped n) × (r ≤ 4096) ⌝ }
+    ensures { λ r. ⌜ (r ≡ clamped n) × (r ≤ elementsMost) ⌝ }
 {
-    if 4096 < n { 4096 } else { n }
+    if ELEMENTS_MOST < n { ELEMENTS_MOST } else { n }
 }
 
 // Puts a line for each of so many elements, in order. An element's verdict is bit `last` of its mark
 // word.
 fn put_elements(
-    out: &mut [u8; 81920],
+    out: &mut [u8; TEXT_BYTES],
     at: usize,
-    labels: &[u16; 4096],
-    levels: &[u16; 4096],
-    marks: &[u64; 4096],
+    labels: &[u16; ELEMENTS_MOST],
+    levels: &[u16; ELEMENTS_MOST],
+    marks: &[u64; ELEMENTS_MOST],
     elements: usize,
     last: usize,
 ) -> usize
-    requires { ⌜ (elements ≤ 4096) × (at + 19 * elements ≤ 81920) ⌝ }
+    requires { ⌜ (elements ≤ elementsMost) × (at + 19 * elements ≤ bufferSize) ⌝ }
     ensures { λ r. ⌜ Put (tableLines (now (labels .entry)) (now (levels .entry)) (now (marks .entry)) last elements) (now (out .entry)) at r (now (out .exit)) ⌝ }
     ensures { λ r. ⌜ r ≤ at + 19 * elements ⌝ }
 {
@@ -74,7 +77,7 @@ fn put_elements(
 }
 
 // Puts `refused N at P`.
-pub fn put_refused(out: &mut [u8; 81920], number: u32, place: usize) -> usize
+pub fn put_refused(out: &mut [u8; TEXT_BYTES], number: u32, place: usize) -> usize
     ensures { λ r. ⌜ Rendered (refusedLine number place) (now (out .entry)) r (now (out .exit)) ⌝ }
 {
     put_phrase(out, 0, b"refused ", number as usize, b"at ", place)
@@ -82,10 +85,10 @@ pub fn put_refused(out: &mut [u8; 81920], number: u32, place: usize) -> usize
 
 // Puts the header, a line for each of n elements (the tables have 4,096), and `selected S of N`.
 pub fn put_accepted(
-    out: &mut [u8; 81920],
-    labels: &[u16; 4096],
-    levels: &[u16; 4096],
-    marks: &[u64; 4096],
+    out: &mut [u8; TEXT_BYTES],
+    labels: &[u16; ELEMENTS_MOST],
+    levels: &[u16; ELEMENTS_MOST],
+    marks: &[u64; ELEMENTS_MOST],
     n: usize,
     last: usize,
     selected: usize,

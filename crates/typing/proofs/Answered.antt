@@ -17,7 +17,8 @@ use Rattle.grammar.specs.When.{Sized}
 use Rattle.paths.specs.Syntax.{Test}
 use Rattle.paths.specs.Spelling.{Text, StopsAt}
 use Rattle.paths.specs.Translation.{tableOf}
-use Rattle.paths.specs.Answer.{textMost, entriesMost, TextOf, bytesFor, Gets, bad-size, no-text, too-many, no-room, taken}
+use Rattle.records.specs.Limits.{entriesMost}
+use Rattle.paths.specs.Answer.{textMost, TextOf, bytesFor, Gets, bad-size, no-text, too-many, no-room, taken}
 use Rattle.paths.proofs.Answer.{gets-only}
 use Rattle.parse.specs.Rows.{HeldT}
 use Rattle.parse.specs.Promises.{TreeRead}

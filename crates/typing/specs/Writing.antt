@@ -15,6 +15,7 @@ use Rattle.paths.specs.Translation.{entry, lastOf, put, putDown, putT, putS}
 use Rattle.parse.specs.Rows.{HeldT, HeldS}
 use Rattle.typing.specs.declared.part.Part.{Part}
 use Rattle.typing.specs.declared.put.Written.{Written}
+use Rattle.records.specs.Limits.{entriesMost}
 
 -- ---- what is put
 
@@ -63,7 +64,7 @@ partAt rows n = record { form = getD rows (3 * n - 3) 0; first = getD rows (3 * 
 -- Steps stand in rows, from row n back to the first of their path: each row names that of the step before it, and the first names 0.
 unfoldable pub HeldSteps : List ℕ → List Step → (n : ℕ) → Type 0
 HeldSteps rows [] n = n ≡ 0
-HeldSteps rows (st ∷ sts) n = (b : ℕ) × (n ≤ 64) × HeldS rows st n b × HeldSteps rows sts b
+HeldSteps rows (st ∷ sts) n = (b : ℕ) × (n ≤ entriesMost) × HeldS rows st n b × HeldSteps rows sts b
 
 -- The rule that was `before` has been filled with a table's records.
 pub record Filled (before : List ℕ) (es : List Entry) (rule : List ℕ) (w : Written) : Type 0 where
@@ -75,7 +76,7 @@ pub record Asks (f : Change) (rule : List ℕ) (w : Written) : Type 0 where
   pub before : List ℕ
   pub es : List Entry
   pub filled : Filled before es rule w
-  pub few : length (f es) ≤ 64
+  pub few : length (f es) ≤ entriesMost
   pub room : length (ruleBytes (f es)) ≤ length rule
 
 -- Whatever the table was, its change has been made, which put an entry or more.

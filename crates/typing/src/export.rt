@@ -3,10 +3,9 @@ ghost use mathlib.Core.Path.{_≡_};
 ghost use Rattle.typing.specs.Typed.{Typed};
 use crate::write::write_rule;
 use parse::tree::Outcome;
+use parse::tree::ROW_PLACES;
 use parse::tree::read_tree;
-
-// How many entries a rule has at most.
-const ENTRIES: usize = 64;
+use records::limits::ENTRIES_MOST;
 
 // What the call answers: the number, the place, and how many bytes it wrote.
 #[repr(C)]
@@ -33,11 +32,11 @@ fn refused(number: u32, place: u32) -> PathReply
 pub extern "C" fn pz_read_path(text: &[u8], rule: &mut [u8]) -> PathReply
     ensures { λ r. ⌜ Typed (now (text .entry)) (now (rule .entry)) r (now (rule .exit)) ⌝ }
 {
-    let mut rows = [0u16; 192];
+    let mut rows = [0u16; ROW_PLACES];
     match read_tree(text, &mut rows) {
         Outcome::Stopped(p) => refused(13, p as u32),
         Outcome::Text(entries, bytes) => {
-            if ENTRIES < entries {
+            if ENTRIES_MOST < entries {
                 return refused(14, 0);
             }
             if rule.len() < bytes {

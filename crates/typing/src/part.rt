@@ -2,6 +2,8 @@
 ghost use mathlib.Core.Path.{_≡_};
 ghost use Prim.Native.Nat.{_≤_};
 ghost use Rattle.typing.specs.Writing.{partAt};
+ghost use Rattle.records.specs.Limits.{entriesMost};
+use parse::tree::ROW_PLACES;
 
 // What a row holds: its form and its two numbers.
 pub(crate) struct Part {
@@ -11,8 +13,8 @@ pub(crate) struct Part {
 }
 
 // Row n; rows count from 1, and there are 64.
-pub(crate) fn part_at(rows: &[u16; 192], n: u16) -> Part
-    requires { ⌜ (1 ≤ n) × (n ≤ 64) ⌝ }
+pub(crate) fn part_at(rows: &[u16; ROW_PLACES], n: u16) -> Part
+    requires { ⌜ (1 ≤ n) × (n ≤ entriesMost) ⌝ }
     ensures { λ r. ⌜ r ≡ partAt (now (rows .entry)) n ⌝ }
 {
     let end = 3 * (n as usize);

@@ -9,20 +9,22 @@ ghost use Rattle.paths.specs.Syntax.{Test};
 ghost use Rattle.paths.specs.Translation.{tableOf};
 ghost use Rattle.parse.specs.Rows.{HeldT};
 ghost use Rattle.typing.specs.Writing.{TestAsks, TestPuts, StepAsks, StepPuts, StepsAsk, StepsPut};
+ghost use Rattle.records.specs.Limits.{entriesMost};
 use crate::part::part_at;
 use crate::put::Written;
 use crate::put::last;
 use crate::put::put_record;
 use crate::step::put_plain;
 use crate::step::put_tested;
+use parse::tree::ROW_PLACES;
 
 // What was written is handed on field by field: handed on as it came, it would be copied as a whole
 // right after its fields were stored one by one, and the processor waits for that.
 
 // The entries of the test in row n, behind what is written: the argument or arguments, and the whole;
 // of a path its closing "true", and its steps.
-fn write(rows: &[u16; 192], n: u16, rule: &mut [u8], w: Written) -> Written
-    requires { ⌜ (n ≤ 64) × TestAsks (now rows) n (now rule) w ⌝ }
+fn write(rows: &[u16; ROW_PLACES], n: u16, rule: &mut [u8], w: Written) -> Written
+    requires { ⌜ (n ≤ entriesMost) × TestAsks (now rows) n (now rule) w ⌝ }
     ensures { λ r. ⌜ TestPuts (now (rows .entry)) n (now (rule .entry)) w (now (rule .exit)) r ⌝ }
 {
     let part = part_at(rows, n);
@@ -64,7 +66,7 @@ fn write(rows: &[u16; 192], n: u16, rule: &mut [u8], w: Written) -> Written
 
 // The entries of the step in row n and then of the steps before it in its path. The argument of each
 // is the last entry so far. A loop and not a call for each step, as the steps are read.
-fn write_steps(rows: &[u16; 192], n: u16, rule: &mut [u8], w: Written) -> Written
+fn write_steps(rows: &[u16; ROW_PLACES], n: u16, rule: &mut [u8], w: Written) -> Written
     requires { ⌜ (1 ≤ n) × (1 ≤ w .entries) × StepsAsk (now rows) n (now rule) w ⌝ }
     ensures { λ r. ⌜ StepsPut (now (rows .entry)) n (now (rule .entry)) w (now (rule .exit)) r ⌝ }
 {
@@ -81,8 +83,8 @@ fn write_steps(rows: &[u16; 192], n: u16, rule: &mut [u8], w: Written) -> Writte
 }
 
 // The entries of the step in row n alone: of its test, if it has one, and its own.
-fn write_step(rows: &[u16; 192], n: u16, rule: &mut [u8], w: Written) -> Written
-    requires { ⌜ (n ≤ 64) × (1 ≤ w .entries) × StepAsks (now rows) n (now rule) w ⌝ }
+fn write_step(rows: &[u16; ROW_PLACES], n: u16, rule: &mut [u8], w: Written) -> Written
+    requires { ⌜ (n ≤ entriesMost) × (1 ≤ w .entries) × StepAsks (now rows) n (now rule) w ⌝ }
     ensures { λ r. ⌜ StepPuts (now (rows .entry)) n (now (rule .entry)) w (now (rule .exit)) r ⌝ }
 {
     let part = part_at(rows, n);
@@ -106,8 +108,8 @@ fn write_step(rows: &[u16; 192], n: u16, rule: &mut [u8], w: Written) -> Written
 
 // The rule of the test in row n at the front of the buffer, which has room for it. The bytes past
 // the rule keep their contents.
-pub(crate) fn write_rule(rows: &[u16; 192], n: usize, rule: &mut [u8])
-    requires { ⌜ (n ≤ 64) × ((t : Test) × HeldT (now rows) t n × (length (tableOf t) ≤ 64) × (length (ruleBytes (tableOf t)) ≤ length (now rule))) ⌝ }
+pub(crate) fn write_rule(rows: &[u16; ROW_PLACES], n: usize, rule: &mut [u8])
+    requires { ⌜ (n ≤ entriesMost) × ((t : Test) × HeldT (now rows) t n × (length (tableOf t) ≤ entriesMost) × (length (ruleBytes (tableOf t)) ≤ length (now rule))) ⌝ }
     ensures { λ r. ⌜ ((t : Test) → HeldT (now (rows .entry)) t n → now (rule .exit) ≡ sets (now (rule .entry)) 0 (ruleBytes (tableOf t))) ⌝ }
 {
     write(
