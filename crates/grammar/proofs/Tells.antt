@@ -29,6 +29,16 @@ pub false-iff : {P : Type 0} {b : Bool} → Told P b → (b ≡ false) ↔ (P �
 false-iff (holds p) = (λ e. clash refl e, λ n. absurd (n p))
 false-iff (fails n) = (λ e. n, λ m. refl)
 
+-- Where a conjunction passes, both tests pass.
+pub and-true : (a b : Bool) → (a && b) ≡ true → (a ≡ true) × (b ≡ true)
+and-true true b e = (refl, e)
+and-true false b e = clash e refl
+
+-- A conjunction with a test that passes is the other test.
+pub and-one : (a : Bool) → (a && true) ≡ a
+and-one true = refl
+and-one false = refl
+
 -- Tests that tell equivalent propositions are equal.
 pub told-same : {P Q : Type 0} {a b : Bool} → Told P a → Told Q b → P ↔ Q → a ≡ b
 told-same (holds p) u e = sym (true-iff u .1 (e .0 p))

@@ -23,7 +23,7 @@ use Rattle.grammar.specs.When.{Misdirected, bad-label, bad-a, bad-b, Mis
 use Rattle.grammar.proofs.Chain.{Distinct, chain-numbers, chain-first-iff, chain-second-iff, chain-third-iff, chain-none-iff}
 use Rattle.grammar.proofs.Decides.{Decided, by-end, by-fault, answer-iff, unsized-iff, sized-iff, size-cases}
 use Rattle.grammar.proofs.Frame.{broken-told}
-use Rattle.grammar.proofs.Tells.{Told, holds, fails, told-iff, or-told, and-told, ltb-told, leb-told}
+use Rattle.grammar.proofs.Tells.{Told, fails, told-iff, or-told, and-told, ltb-told, leb-told}
 
 -- ---- the fault of one record
 
