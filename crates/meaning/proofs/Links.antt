@@ -63,10 +63,6 @@ module _ (levels : List ℕ) where
       (last-complete d s t (record { before = l; low = r .low; between = λ k a b. r .between k a (omega arith) })))
       (eq-or-lt-of-le (le-of-suc-le-suc (r .before)))
 
-  -- What lastUpTo finds is the last element before s whose level is at most d.
-  pub last-iff : (d s t : ℕ) → (lastUpTo levels d s ≡ some t) ↔ Last d s t
-  last-iff d s t = (last-sound d s t, last-complete d s t)
-
   last-there-more : {b : Bool} (d s c : ℕ) → Told (getD levels s 0 ≤ d) b → c < suc s → getD levels c 0 ≤ d
       → (c < s → (t : ℕ) × Last d s t) → (t : ℕ) × Last d (suc s) t
   last-there-more d s c (holds l) b m h = (s, last-here d s l)
