@@ -1,13 +1,13 @@
 -- Laws of the text: it is read back by lines as its own lines, one for each element and two more, line k + 1 being element k's; and
 -- the promises determine what they promise.
 -- Assumes nothing.
-use Prim.Native.Nat.{ℕ, zero, suc, _+_, _-_, _≤_, _<_}
+use Prim.Native.Nat.{ℕ, zero, suc, _+_, _<_}
 use native.Mathlib.Omega.{arith}
 use native.Mathlib.Numerals.{add-one}
 use native.Mathlib.Decide.{decLt}
 use borrow.Author.Tests.{ne-eqb, eqb-false}
 use mathlib.Core.Path.{_≡_, refl, sym, ap, _∙_}
-use mathlib.Core.Bool.{Bool, true, false, cond, not, _&&_}
+use mathlib.Core.Bool.{Bool, true, false, not, _&&_}
 use mathlib.Core.List.{List, [], _∷_, _++_, flatten, append-assoc, append-nil}
 use lib.Dec.{eqb}
 use lib.ListN.{length, getD, length-append, List·getD-append}
@@ -31,7 +31,8 @@ pub record Line (l : List ℕ) : Type 0 where
   pub within : Every Within body
   pub ends : l ≡ body ++ (lineFeed ∷ [])
 
-every-weaken : (P Q : ℕ → Type 0) → ((b : ℕ) → P b → Q b) → (bs : List ℕ) → Every P bs → Every Q bs
+-- What holds of every byte holds of them in any weaker form.
+pub every-weaken : (P Q : ℕ → Type 0) → ((b : ℕ) → P b → Q b) → (bs : List ℕ) → Every P bs → Every Q bs
 unfolding Every
 every-weaken P Q f [] h = tt
 every-weaken P Q f (b ∷ bs) h = (f b (h .0), every-weaken P Q f bs (h .1))

@@ -1,6 +1,6 @@
 -- What a text says: two texts that are equal say the same numbers, field by field and line by line.
 -- Assumes nothing.
-use Prim.Native.Nat.{ℕ, suc, _+_, _≤_, _<_}
+use Prim.Native.Nat.{ℕ, suc, _<_}
 use native.Mathlib.Omega.{arith}
 use mathlib.Core.Path.{_≡_, refl, sym, ap, _∙_}
 use mathlib.Core.Bool.{Bool, true, false}
@@ -9,7 +9,7 @@ use lib.ListN.{length, getD, drop}
 use lib.Seq.{drop-append-seam}
 use Rattle.meaning.specs.Marks.{bit}
 use Rattle.text.specs.Decimal.{decimal}
-use Rattle.text.specs.Text.{ascii, space, lineFeed, field, phrase, refusedLine, elementLine, closingLine, lineOf, acceptedText}
+use Rattle.text.specs.Text.{ascii, space, lineFeed, field, phrase, refusedLine, elementLine, closingLine, acceptedText}
 use Rattle.text.specs.Lines.{linesIn}
 use Rattle.text.proofs.DecimalLaws.{Every, Digit, decimal-digits, decimal-only}
 use Rattle.text.proofs.TextLaws.{accepted-count, accepted-at, accepted-last}
