@@ -10,6 +10,7 @@ use borrow.Author.Tests.{ne-eqb, eq-eqb, eqb-true, leb-true, le-leb}
 use lib.Dec.{eqb, leb}
 use lib.ListN.{length, getD, drop, drop-of-length-le}
 use lib.Seq.{drop-cons, drop-drop}
+use Rattle.grammar.proofs.Tells.{and-true}
 use Rattle.text.specs.Decimal.{digit}
 use Rattle.text.proofs.DecimalLaws.{decimal-one}
 use Rattle.paths.proofs.Machine.{number, run, next, ended, isDigit}
@@ -101,10 +102,6 @@ module _ (x s : List ℕ) (at k : ℕ) where
 pub digit-law : (low b : ℕ) (l : List ℕ) → b ≡ headOf l → (leb low b && leb b 57) ≡ digitFrom low l
 unfolding digitFrom
 digit-law low b l e = rw e
-
-and-true : (a b : Bool) → (a && b) ≡ true → (a ≡ true) × (b ≡ true)
-and-true true b e = (refl, e)
-and-true false b e = let z : _≡_ {A = ℕ} 0 1 = cc in absurd (omega arith)
 
 no-digit : (l : List ℕ) → digitFrom 48 l ≡ false → NoDigit l
 unfolding digitFrom headOf NoDigit isDigit

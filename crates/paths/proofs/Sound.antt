@@ -12,6 +12,7 @@ use Rattle.text.specs.Decimal.{digit, decimal}
 use Rattle.text.proofs.DecimalLaws.{decimal-one, decimal-more}
 use Rattle.records.specs.declared.kind.Axis.{Axis}
 use Rattle.records.specs.declared.kind.Axis.the-variants.{Child as child, Parent as parent, Next as right, Previous as left}
+use Rattle.grammar.proofs.Tells.{and-true}
 use Rattle.paths.specs.Syntax.{Test, everywhere, labelled, except, either, begins, Path, only, _then_, Step, along, along*, passing, while, GoodT, GoodP, GoodS}
 use Rattle.paths.specs.Spelling.{closing, greater, slash, star, word, sign, axisWord, orWord, piecesT, piecesP, piecesS, signByte, gap, textOf, Text}
 use Rattle.paths.proofs.Machine.{Expected, byte, test, lettered, alternative, number, twoDigits, oneDigit, path, axis, afterAxis, afterStep, isDigit, isWord, Choice, letters, axes, goingOn, choices, pick, next, ended, whole, stopped, onward, run}
@@ -166,10 +167,6 @@ test-back w K = (
     go false = all-map {P = Back false lettered K} {Q = Back false test K} (λ c h s f. let (t, r, g, e, k) = h s f in (t, r, g, e .0, k)) letters (letters-back false K)
 
 -- ---- digits
-
-and-true : (a b : Bool) → (a && b) ≡ true → (a ≡ true) × (b ≡ true)
-and-true true b e = (refl, e)
-and-true false b e = let z : _≡_ {A = ℕ} 0 1 = cc in absurd (omega arith)
 
 -- A byte that passes for a digit is the digit of a number below ten.
 digit-of : (b : ℕ) → isDigit b ≡ true → (d : ℕ) × (d < 10) × (b ≡ digit d)

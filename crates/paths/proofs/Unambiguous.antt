@@ -13,6 +13,7 @@ use Rattle.meaning.specs.Cases.{same}
 use Rattle.text.specs.Text.{ascii}
 use Rattle.text.specs.Decimal.{decimal, valueOf}
 use Rattle.text.proofs.DecimalLaws.{Every, Digit, decimal-back, decimal-digits, decimal-some}
+use Rattle.text.proofs.TextLaws.{every-weaken}
 use Rattle.records.specs.declared.kind.Axis.{Axis}
 use Rattle.records.specs.declared.kind.Axis.the-variants.{Child as child, Parent as parent, Next as right, Previous as left}
 use Rattle.paths.specs.Syntax.{Test, everywhere, labelled, except, either, begins, Path, only, _then_, Step, along, along*, passing, while}
@@ -128,11 +129,6 @@ digit-word : (b : ℕ) → Digit b → WordByte b
 unfolding isWord isDigit
 digit-word b d = rw (le-leb 48 b (d .0), le-leb b 57 (d .1))
 
-every-map : {P Q : ℕ → Type 0} → ((b : ℕ) → P b → Q b) → (s : List ℕ) → Every P s → Every Q s
-unfolding Every
-every-map f [] h = tt
-every-map f (b ∷ s) h = (f b (h .0), every-map f s (h .1))
-
 axis-fine : (a : Axis) → (1 ≤ length (axisWord a)) × Every WordByte (axisWord a)
 unfolding axisWord Every isWord isDigit ascii
 axis-fine child = (omega arith, (refl, (refl, (refl, (refl, (refl, tt))))))
@@ -148,7 +144,7 @@ mutual
   fine-test (labelled n) ps f = (
     omega arith,
     (refl, (refl, (refl, (refl, (refl, tt))))),
-    (decimal-some n, every-map digit-word (decimal n) (decimal-digits n), f),
+    (decimal-some n, every-weaken Digit WordByte digit-word (decimal n) (decimal-digits n), f),
   )
   fine-test (except t) ps f = (omega arith, (refl, (refl, (refl, tt))), fine-test t ps f)
   fine-test (either t u) ps f = fine-test t _ (omega arith, (refl, (refl, tt)), fine-test u (sign closing ∷ ps) f)
