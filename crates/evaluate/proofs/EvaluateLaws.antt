@@ -8,7 +8,7 @@ use mathlib.Core.Bool.{Bool, true, false, cond}
 use mathlib.Core.List.{List, [], _∷_, _++_, map}
 use mathlib.Core.Logic.{⊎-elim}
 use lib.Dec.{ltb, eqb}
-use lib.ListN.{length, take, drop, length-map}
+use lib.ListN.{length, take, drop}
 use lib.Seq.{take-append-seam}
 use Rattle.records.specs.Answer.{countOf, placeOf}
 use Rattle.records.specs.Rule.{ruleAnswer}
@@ -24,9 +24,9 @@ use Rattle.grammar.specs.Rules.{RuleEntries}
 use Rattle.grammar.specs.Legal.{LegalLevels}
 use Rattle.grammar.proofs.WhenRule.{rule-numbers}
 use Rattle.grammar.proofs.WhenReport.{report-numbers}
-use Rattle.grammar.proofs.Entries.{entries-count, entries-few, entries-some, entry-formed}
+use Rattle.grammar.proofs.Entries.{entries-count, entries-few, rule-entries}
 use Rattle.grammar.proofs.Elements.{elements-count, levels-elements, levels-legal}
-use Rattle.meaning.specs.Marks.{words, selected, bit, bitAt}
+use Rattle.meaning.specs.Marks.{words, selected, bitAt}
 use Rattle.meaning.proofs.Words.{bit-small, words-length}
 use Rattle.evaluate.specs.Evaluation.{accepted, refused, judged, meantWords, evaluation, written, Evaluated, Reported, Weighed}
 use Rattle.evaluate.specs.Pass.{Marked}
@@ -184,8 +184,7 @@ entries-held rule kinds firsts seconds {r} {n} {ks} {fs} {ss} a b c f e =
     let is : Accepted n ≡ ruleAnswer rule = sym e ∙ f .answer in
     let le : length (entriesOf rule) ≡ n = entries-count rule ∙ ap countOf (sym is) in
     let few : n ≤ 64 = omega (arith, entries-few rule) in
-    let whole : RuleEntries (entriesOf rule) =
-    record { nonempty = omega (arith, entries-some rule n (sym is)); few = entries-few rule; formed = entry-formed rule } in
+    let whole : RuleEntries (entriesOf rule) = rule-entries rule n (sym is) in
     let table : tableOf n ks fs ss ≡ entriesOf rule =
     rw (f .kinds-are, f .firsts-are, f .seconds-are, ← le)
     (table-of-columns (entriesOf rule) kinds firsts seconds (omega arith) (omega arith) (omega arith)) in

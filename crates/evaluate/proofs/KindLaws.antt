@@ -1,16 +1,13 @@
 -- The marks of each kind's pass are the meaning's; the words after each entry; the words as the list that is promised.
 -- Assumes nothing.
-use Prim.Native.Nat.{ℕ, zero, suc, pred, _+_, _*_, _^_, _-_, _≤_, _<_}
+use Prim.Native.Nat.{ℕ, pred, _+_, _-_, _≤_, _<_}
 use native.Mathlib.Decide.{decLt}
-use native.Mathlib.Nat.{le-of-suc-le-suc}
 use native.Mathlib.Numerals.{add-one}
 use native.Mathlib.Omega.{arith}
-use lib.Arith.{lt-of-le-ne}
 use mathlib.Core.Path.{_≡_, refl, sym, ap, subst, _∙_}
 use mathlib.Core.Bool.{Bool, true, false, not, xor, _&&_, _||_}
-use mathlib.Core.List.{List, [], _∷_, _++_}
-use mathlib.Core.Option.{Option, some}
-use lib.ListN.{length, getD, take, drop}
+use mathlib.Core.List.{List}
+use lib.ListN.{length, getD, take}
 use lib.Seq.{ext-getD, take-at, take-suc}
 use Rattle.records.specs.declared.rule.Entry.{Entry}
 use Rattle.records.specs.Tables.{over}
@@ -34,12 +31,11 @@ use Rattle.meaning.proofs.Tests.{bool-told}
 use Rattle.meaning.proofs.Reflect.{means-told}
 use Rattle.meaning.proofs.OneStep.{mark-rule, plain}
 use Rattle.meaning.proofs.Words.{pred-sub, bit-small, word-bit, word-lt, words-length, words-at, selected-more}
-use Rattle.evaluate.specs.Links.{leads, Leads, Linked}
+use Rattle.evaluate.specs.Links.{leads, Linked}
 use Rattle.evaluate.specs.Pass.{Stored, Passed, Room, bitsOf, Marked}
 use Rattle.evaluate.specs.Steps.{alongMark, columnOf, aheadMark, Nearest}
 use Rattle.grammar.specs.Columns.{tableOf, entryIn}
-use Rattle.evaluate.specs.declared.ahead.Look.{Look}
-use Rattle.evaluate.specs.declared.ahead.Look.the-variants.{Until, Every}
+use Rattle.evaluate.specs.declared.ahead.Look.the-variants.{Every}
 use Rattle.evaluate.proofs.LinkLaws.{ups-all, lefts-all, parent-next}
 use Rattle.evaluate.proofs.PassLaws.{stored-start, stored-same, passed-start}
 use Rattle.grammar.proofs.Columns.{table-length, table-at}

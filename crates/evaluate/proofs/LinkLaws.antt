@@ -1,6 +1,6 @@
 -- Laws of the columns of parents and previous siblings: where a column leads, and one element more of the pass that fills them.
 -- Assumes nothing.
-use Prim.Native.Nat.{ℕ, zero, suc, _+_, _-_, _≤_, _<_}
+use Prim.Native.Nat.{ℕ, zero, suc, _+_, _≤_, _<_}
 use native.Mathlib.Decide.{ℕ-discrete, decLt}
 use native.Mathlib.Nat.{eq-or-lt-of-le, le-of-suc-le-suc}
 use native.Mathlib.Numerals.{add-one}
@@ -126,11 +126,6 @@ link-start levels ups lefts held u f h =
       reach = λ k e. absurd (omega arith);
       stack = λ e l. absurd (omega arith);
     }
-
--- What is written for an element below level 0.
-pub up-under : (held : List ℕ) (d s : ℕ) → (d ≡ 0 → ⊥) → upOf held d s ≡ getD held (d - 1) 0
-up-under held zero s n = absurd (n refl)
-up-under held (suc d) s n = let e : d ≡ suc d - 1 = omega arith in ap (λ (k : ℕ). getD held k 0) e
 
 module _ {levels ups lefts held : List ℕ} {depth s : ℕ} (legal : LegalLevels levels) (mid : LinkMid levels ups lefts held depth s)
     (l : s < length levels) where

@@ -1,16 +1,16 @@
 -- The marks of a pass are its steps: at each element, what the step makes of the element's own bits and of those one step away.
 -- Once over every function F that finds a relation backward among n elements. Assumes nothing.
-use Prim.Native.Nat.{ℕ, zero, suc, _≤_, _<_}
+use Prim.Native.Nat.{ℕ, suc, _≤_, _<_}
 use native.Mathlib.Nat.{eq-or-lt-of-le}
 use native.Mathlib.Omega.{arith}
-use mathlib.Core.Path.{_≡_, refl, sym, ap, subst, _∙_}
-use mathlib.Core.Bool.{Bool, true, false, cond, not, _&&_, _||_}
+use mathlib.Core.Path.{_≡_, refl, sym, ap, subst}
+use mathlib.Core.Bool.{Bool, true, false, cond, _&&_, _||_}
 use mathlib.Core.List.{List}
 use mathlib.Core.Logic.{inl, inr, ⊎-elim}
 use mathlib.Core.Option.{Option, none, some}
-use lib.Dec.{leb, ltb, eqb}
+use lib.Dec.{leb, ltb}
 use lib.ListN.{length, getD}
-use Rattle.grammar.proofs.Tells.{Told, holds, fails, told-same, leb-told, or-told, and-told}
+use Rattle.grammar.proofs.Tells.{Told, fails, told-same, leb-told, or-told, and-told}
 use Rattle.meaning.specs.Tree.{forward, backward}
 use Rattle.meaning.specs.Marks.{at, anyBelow, bitAt, someOf, everyOf}
 use Rattle.meaning.proofs.Tests.{Finds, ahead, behind, bool-told, any-told, until-is}
