@@ -14,18 +14,16 @@ use lib.ListN.{length, replicate}
 use Rattle.records.specs.declared.answer.Answer.{Answer}
 use Rattle.records.specs.declared.answer.Answer.the-variants.{Accepted, Refused}
 use Rattle.records.specs.declared.rule.Entry.{Entry}
-use Rattle.records.specs.Answer.{countOf}
 use Rattle.records.specs.Report.{reportAnswer, tagsOf as tagsIn}
 use Rattle.records.specs.Rule.{ruleAnswer}
 use Rattle.records.specs.Tables.{entriesOf, levelsOf, labelsOf}
 use Rattle.records.specs.Tags.{Tag, opens, closes, opened}
 use Rattle.grammar.specs.Bytes.{Bytes}
-use Rattle.grammar.specs.Rules.{RuleEntries}
 use Rattle.grammar.proofs.Elements.{accepted-legal, levels-accepted, labels-accepted}
 use Rattle.grammar.specs.Reports.{bytesOf}
 use Rattle.grammar.proofs.ReportBytes.{accepted-tree, tags-are}
 use Rattle.grammar.proofs.Trees.{bytes-append}
-use Rattle.grammar.proofs.Entries.{entries-count, entries-few, entries-some, entry-formed}
+use Rattle.grammar.proofs.Entries.{entries-few, rule-entries}
 use Rattle.meaning.specs.Marks.{bit, bitAt, wordOf, verdict}
 use Rattle.meaning.specs.OnePass.{fresh, LooksBack, fault, openedVerdict, afterAll, Taken}
 use Rattle.meaning.proofs.Agrees.{verdict-agrees as table-agrees}
@@ -111,15 +109,6 @@ taken-split (b ∷ before) c later e =
     (rw (eq-eqb (b .answer .number) 0 (h .0), r .0), r .1)
 
 -- ---- a rule that looks back only
-
--- The entries of an accepted rule are a rule's.
-pub rule-entries : (rule : List ℕ) (m : ℕ) → ruleAnswer rule ≡ Accepted m → RuleEntries (entriesOf rule)
-rule-entries rule m e =
-    record {
-      nonempty = omega (arith, entries-some rule m e, entries-count rule, ap countOf e);
-      few = entries-few rule;
-      formed = entry-formed rule;
-    }
 
 -- No entry looks ahead exactly where every entry looks back.
 back-ahead : (es : List Entry) → LooksBack es → looksAhead es ≡ false

@@ -1,6 +1,6 @@
 -- Numbers of any width in a byte string: their parts, their bound, and what storing one changes and keeps.
 -- Assumes nothing.
-use Prim.Native.Nat.{ℕ, zero, suc, pred, _+_, _*_, _/_, _%_, _^_, _-_, _≤_, _<_}
+use Prim.Native.Nat.{ℕ, zero, suc, _+_, _*_, _/_, _%_, _^_, _≤_, _<_}
 use native.Mathlib.Nat.{add-zero, zero-add, one-mul, mul-assoc, pow-suc, pow-succ', div-one, div-div-eq-div-mul, div-lt-iff-lt-mul, mod-lt}
 use native.Mathlib.Nat.{div-add-mod'}
 use native.Mathlib.Omega.{arith}
