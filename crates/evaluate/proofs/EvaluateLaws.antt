@@ -40,14 +40,14 @@ use Rattle.grammar.proofs.Columns.{table-of-columns}
 pub filled-length : (xs lent : List ℕ) {last : List ℕ} (n : ℕ) → last ≡ over xs lent → length lent ≡ n → n ≡ length last
 filled-length xs lent n e l = sym (ap length e ∙ over-length xs lent ∙ l)
 
-pub filled-take : (xs lent : List ℕ) {last : List ℕ} (n : ℕ) → last ≡ over xs lent → length xs ≡ n → n ≤ length lent → take n last ≡ xs
+filled-take : (xs lent : List ℕ) {last : List ℕ} (n : ℕ) → last ≡ over xs lent → length xs ≡ n → n ≤ length lent → take n last ≡ xs
 filled-take xs lent n e l h =
     ap (take n) (e ∙ over-is xs lent (omega arith))
     ∙ subst (λ (k : ℕ). take k (xs ++ drop (length xs) lent) ≡ xs) l (take-append-seam xs (drop (length xs) lent))
 
 -- ---- the selected count is no more than there are words
 
-pub selected-few : (m : ℕ) (ws : List ℕ) → selected m ws ≤ length ws
+selected-few : (m : ℕ) (ws : List ℕ) → selected m ws ≤ length ws
 unfolding selected
 selected-few m [] = omega arith
 selected-few m (w ∷ ws) = omega (arith, bit-small (bitAt w (pred m)), selected-few m ws)

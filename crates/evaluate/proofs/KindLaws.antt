@@ -132,7 +132,7 @@ module _ {levels ups lefts : List ℕ} (linked : Linked levels ups lefts) (label
 -- ---- the entries
 
 -- A kind asks a and b at elements only.
-pub means-same : (levels labels : List ℕ) (k : Shape) (l : ℕ) (a a′ b b′ : ℕ → Bool)
+means-same : (levels labels : List ℕ) (k : Shape) (l : ℕ) (a a′ b b′ : ℕ → Bool)
     → ((t : ℕ) → t < length levels → a t ≡ a′ t) → ((t : ℕ) → t < length levels → b t ≡ b′ t) → (s : ℕ) → s < length levels
     → means levels labels k l a b s ≡ means levels labels k l a′ b′ s
 means-same levels labels k l a a′ b b′ ea eb s h =
@@ -166,7 +166,7 @@ module _ (levels labels : List ℕ) (entries : List Entry) where
       ])
 
   -- One entry more.
-  pub entry-turn : RuleEntries entries → (i : ℕ) → i < length entries → {before ws after : List ℕ}
+  entry-turn : RuleEntries entries → (i : ℕ) → i < length entries → {before ws after : List ℕ}
       → Stored (length levels) (wordUpTo i) before ws
       → Passed (length levels) i (means levels labels (shapeOf (entry i .kind)) (entry i .a) (bitsOf ws (entry i .a)) (bitsOf ws (entry i .b))) ws after
       → Stored (length levels) (wordUpTo (i + 1)) before after
@@ -195,7 +195,7 @@ module _ (levels labels : List ℕ) (entries : List Entry) where
       }
 
   -- The words as the list that is promised.
-  pub words-over : {before after : List ℕ} → length levels ≤ length before
+  words-over : {before after : List ℕ} → length levels ≤ length before
       → Stored (length levels) (wordOf entries levels labels) before after → after ≡ over (words entries levels labels) before
   words-over {before} {after} room r =
       let n = words-length entries levels labels in

@@ -32,7 +32,7 @@ module _ (n : ℕ) (before : List ℕ) where
   stored-same e r = record { long = r .long; put = λ s l. r .put s l ∙ e s l; kept = r .kept }
 
   -- One store among the first n words.
-  pub stored-set : {w : ℕ → ℕ} {after : List ℕ} (t v : ℕ) → n ≤ length before → t < n → Stored n w before after
+  stored-set : {w : ℕ → ℕ} {after : List ℕ} (t v : ℕ) → n ≤ length before → t < n → Stored n w before after
       → Stored n (at-put w t v) before (set after t v)
   stored-set {w} {after} t v room l r =
       record {
@@ -91,7 +91,7 @@ module _ {n i : ℕ} {before : List ℕ} (room : Room n i before) where
     pub passed-under : (a : ℕ) → a < i → bitAt (getD after s 0) a ≡ bitsOf before a s
     passed-under a la = rw (r .stored .put s l) (bit-under i a (m s) (getD before s 0) la)
 
-    pub passed-rest : getD after s 0 % 2 ^ i ≡ getD before s 0
+    passed-rest : getD after s 0 % 2 ^ i ≡ getD before s 0
     passed-rest = rw (r .stored .put s l) (low (bit (m s)) i (room .small s l))
 
     -- One element's mark joined by another.

@@ -41,7 +41,7 @@ gate-turn {n} {i} {before} {after} g a b s room l r =
     (ascent-word room (λ s. gateMark g (bitsOf before a s) (bitsOf before b s)) s l r)
 
 -- The mark is the step over the element's own bits and over bit a and the mark where F leads.
-pub back-own : {R : ℕ → ℕ → Type 0} {F : ℕ → Option ℕ} {n : ℕ} → Finds R F n → (until : Bool) (a b : ℕ → Bool) (s : ℕ) → s < n
+back-own : {R : ℕ → ℕ → Type 0} {F : ℕ → Option ℕ} {n : ℕ} → Finds R F n → (until : Bool) (a b : ℕ → Bool) (s : ℕ) → s < n
     → alongMark until backward n F a b s ≡ backStep until (a s) (b s) (at (F s) a) (at (F s) (alongMark until backward n F a b))
 unfolding alongMark someOf
 back-own finds true a b s l = until-is (behind finds) a b s l

@@ -17,7 +17,7 @@ unfolding numberAt twoBytes
 number-back n rest = omega (arith, div-add-mod' n 256)
 
 -- Two bytes are the bytes of the number that they make.
-pub two-bytes-of : (x y : ℕ) → x < 256 → x ∷ y ∷ [] ≡ twoBytes (x + 256 * y)
+two-bytes-of : (x y : ℕ) → x < 256 → x ∷ y ∷ [] ≡ twoBytes (x + 256 * y)
 unfolding twoBytes
 two-bytes-of x y h =
     sym (rw (add-mul-mod-self-left x 256 y, add-mul-div-left x y {y = 256} (omega arith), mod-eq-of-lt h, div-eq-of-lt h, zero-add))

@@ -53,7 +53,7 @@ module _ (own : ℕ) (e : Entry) (formed : WellFormed own e) where
   formed-b l = formed-entries (kind-entries (e .kind) l (formed-kind .1)) .1
 
   -- Its label is in 1..999, where it has one.
-  pub formed-label : e .kind ≡ 2 → (1 ≤ e .a) × (e .a ≤ 999)
+  formed-label : e .kind ≡ 2 → (1 ≤ e .a) × (e .a ≤ 999)
   formed-label k =
       let h = ap (λ (x : ℕ). rowOf x .numbers) k ∙ kind-label in
       let low : e .a < 1 → ⊥ = λ o. formed .directed (bad-label h (inl o)) in
@@ -61,7 +61,7 @@ module _ (own : ℕ) (e : Entry) (formed : WellFormed own e) where
 
 module _ (s : List ℕ) where
   -- The entry read at a record without fault is well formed.
-  pub entry-at-formed : (i : ℕ) → ruleFaults s i ≡ 0 → WellFormed i (entryAt s (startOf s i))
+  entry-at-formed : (i : ℕ) → ruleFaults s i ≡ 0 → WellFormed i (entryAt s (startOf s i))
   unfolding entryAt entryOf
   entry-at-formed i z =
       let f = fault-0-iff s i (startOf s i) .0 z .1 in

@@ -121,7 +121,7 @@ start-only s i j e =
     ]
 
 -- Two sequences of tags with the same bytes are one.
-pub bytes-only : (ts us : List Tag) → bytesOf ts ≡ bytesOf us → ts ≡ us
+bytes-only : (ts us : List Tag) → bytesOf ts ≡ bytesOf us → ts ≡ us
 bytes-only ts us e =
     let s = bytesOf ts in
     let r = tags-back ts [] s (sym (append-nil s)) in
@@ -162,7 +162,7 @@ module _ (s : List ℕ) (bytes : Bytes s) where
     go (fails m) (fails k) n q = absurd (n refl)
 
   -- Where its first i records are not faulty, a byte string is the bytes of their tags, and then what is left.
-  pub bytes-read : (i : ℕ) → ((j : ℕ) → j < i → Faulty reportLength s (startOf s j) → ⊥)
+  bytes-read : (i : ℕ) → ((j : ℕ) → j < i → Faulty reportLength s (startOf s j) → ⊥)
       → s ≡ bytesOf (tagsBefore s i) ++ drop (startOf s i) s
   unfolding bytesOf startOf tagsBefore
   bytes-read zero h = refl
@@ -186,7 +186,7 @@ module _ (s : List ℕ) where
       (clean-fit i (λ j l. h j (omega arith)), record-0-iff s (startOf s i) _ _ .0 (h i (omega arith)) .1)
 
   -- Where the first i records are not faulty and their tags fit, they get no number.
-  pub fit-clean : (i : ℕ) → Fit 0 0 (tagsBefore s i) → ((j : ℕ) → j < i → Faulty reportLength s (startOf s j) → ⊥)
+  fit-clean : (i : ℕ) → Fit 0 0 (tagsBefore s i) → ((j : ℕ) → j < i → Faulty reportLength s (startOf s j) → ⊥)
       → (j : ℕ) → j < i → reportFault s j ≡ 0
   unfolding reportFault tagsBefore
   fit-clean zero f h j l = absurd (not-suc-le-zero l)
@@ -268,7 +268,7 @@ tags-begin s m (suc n) h =
     (eq-or-lt-of-le h)
 
 -- A tree's bytes begin those of another tree only where both trees are one, and then nothing follows.
-pub tree-begins-only : (t u : Tree) (rest : List ℕ) → bytesOf (tagsT u) ≡ bytesOf (tagsT t) ++ rest → (t ≡ u) × (rest ≡ [])
+tree-begins-only : (t u : Tree) (rest : List ℕ) → bytesOf (tagsT u) ≡ bytesOf (tagsT t) ++ rest → (t ≡ u) × (rest ≡ [])
 tree-begins-only t u rest e =
     let s = bytesOf (tagsT u) in
     let r = tags-back (tagsT t) rest s e in

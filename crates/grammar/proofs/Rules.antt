@@ -130,7 +130,7 @@ rule-complete es r =
     )
 
 -- An accepted byte string is the concatenation of the records of the entries found in it, which are a rule's.
-pub rule-sound : (s : List ℕ) → Bytes s → (n : ℕ) → ruleAnswer s ≡ Accepted n
+rule-sound : (s : List ℕ) → Bytes s → (n : ℕ) → ruleAnswer s ≡ Accepted n
     → (s ≡ ruleBytes (entriesOf s)) × (RuleEntries (entriesOf s) × (length (entriesOf s) ≡ n))
 unfolding entriesOf
 rule-sound s bytes n e =

@@ -15,7 +15,7 @@ pub data Told (P : Type 0) : Bool → Type 0 where
   fails : (P → ⊥) → Told P false
 
 -- A test whose passing gives the proposition, and whose failing shuts it out, tells it.
-pub told-of : (P : Type 0) (b : Bool) → (b ≡ true → P) → (b ≡ false → P → ⊥) → Told P b
+told-of : (P : Type 0) (b : Bool) → (b ≡ true → P) → (b ≡ false → P → ⊥) → Told P b
 told-of P true f g = holds (f refl)
 told-of P false f g = fails (g refl)
 

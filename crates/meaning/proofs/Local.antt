@@ -29,7 +29,7 @@ use Rattle.meaning.proofs.Reflect.{axis-along}
 use Rattle.meaning.proofs.Words.{word-same}
 
 -- Tests that agree at the element that is found pass alike there.
-pub at-same : (o : Option ℕ) (p q : ℕ → Bool) → ((t : ℕ) → o ≡ some t → p t ≡ q t) → at o p ≡ at o q
+at-same : (o : Option ℕ) (p q : ℕ → Bool) → ((t : ℕ) → o ≡ some t → p t ≡ q t) → at o p ≡ at o q
 at-same none p q h = refl
 at-same (some t) p q h = h t refl
 

@@ -71,7 +71,7 @@ refused-left-out done = done
 refused-left-out (then {c = c} {cs = cs} p more) = left-out-one c cs p (refused-left-out more)
 
 -- A sequence of calls splits at each of them.
-pub calls-split : {rule end : List ℕ} (before : List Call) (c : Call) (later : List Call) (s : List ℕ) → Calls rule s (before ++ (c ∷ later)) end
+calls-split : {rule end : List ℕ} (before : List Call) (c : Call) (later : List Call) (s : List ℕ) → Calls rule s (before ++ (c ∷ later)) end
     → (mid next : List ℕ) × Calls rule s before mid × Promised rule mid (c .tag) (c .answer) next × Calls rule next later end
 calls-split [] c later s (then {next = next} p more) = (s, next, done, p, more)
 calls-split (b ∷ before) c later s (then {next = next} p more) =
@@ -175,7 +175,7 @@ module _ (rule : List ℕ) (m : ℕ) (accepted : ruleAnswer rule ≡ Accepted m)
     go false = refl
 
   -- Calls lead on by the tags of those that are answered 0.
-  pub reached-along : (ts : List Tag) {s end : List ℕ} {cs : List Call} → Reached ts s → Calls rule s cs end → Reached (ts ++ takenTags cs) end
+  reached-along : (ts : List Tag) {s end : List ℕ} {cs : List Call} → Reached ts s → Calls rule s cs end → Reached (ts ++ takenTags cs) end
   unfolding taken tagsOf
   reached-along ts h done = rw (append-nil ts) h
   reached-along ts {s = s} h (then {next = next} {c = c} {cs = cs} p more) =
@@ -205,7 +205,7 @@ module _ (rule : List ℕ) (m : ℕ) (accepted : ruleAnswer rule ≡ Accepted m)
       go false e f = absurd (omega (arith, begun, ap (λ (x : StepReply). x .number) e))
 
     -- What start writes is the fresh state.
-    pub started-state : stateOf start ≡ fresh
+    started-state : stateOf start ≡ fresh
     started-state = rw start-zeros (zeros-fresh stateSize)
 
     started-reached : Reached [] start
@@ -219,7 +219,7 @@ module _ (rule : List ℕ) (m : ℕ) (accepted : ruleAnswer rule ≡ Accepted m)
         }
 
     -- Whatever the calls, the state that they lead to passes the test, and is the table's after the tags of those that are answered 0.
-    pub calls-reached : {end : List ℕ} {cs : List Call} → Calls rule start cs end → Reached (takenTags cs) end
+    calls-reached : {end : List ℕ} {cs : List Call} → Calls rule start cs end → Reached (takenTags cs) end
     calls-reached calls = reached-along [] started-reached calls
 
     -- ---- an opening that is accepted
@@ -266,7 +266,7 @@ module _ (rule : List ℕ) (m : ℕ) (accepted : ruleAnswer rule ≡ Accepted m)
     module _ (report : List ℕ) (n : ℕ) (bytes : Bytes report) (taken-report : reportAnswer report ≡ Accepted n)
         (cs : List Call) (end : List ℕ) (calls : Calls rule start cs end) (fed : tagsOf cs ≡ tagsIn report) where
       -- Every call is answered 0.
-      pub report-taken : taken cs ≡ cs
+      report-taken : taken cs ≡ cs
       unfolding afterAll
       report-taken =
           all-taken [] started-reached calls

@@ -24,7 +24,7 @@ use Rattle.onepass.specs.Walk.{Walked, unreadWalk, Asked, unaskedAhead}
 use Rattle.onepass.proofs.StepLaws.{ahead-more}
 
 -- Entries behind the first m play no part in their word.
-pub step-prefix : (es fs : List Entry) (label p q m : ℕ) → m ≤ length es → stepWord (es ++ fs) label p q m ≡ stepWord es label p q m
+step-prefix : (es fs : List Entry) (label p q m : ℕ) → m ≤ length es → stepWord (es ++ fs) label p q m ≡ stepWord es label p q m
 unfolding stepWord
 step-prefix es fs label p q zero l = refl
 step-prefix es fs label p q (suc m) l = rw (stepWord, List·getD-append es fs noEntry m (omega arith), step-prefix es fs label p q m (omega arith))

@@ -29,7 +29,7 @@ Way p s r = GoodP p × (s ≡ ahead false (piecesP p (sign greater ∷ [])) r)
 
 -- The bytes s are what the stack expects, where a word stands just before them or not. Behind digits: for every number that leaves
 -- room for them. Behind an axis or a step: for every one.
-unfoldable pub Fits : List Expected → (after : Bool) → List ℕ → Type 0
+unfoldable Fits : List Expected → (after : Bool) → List ℕ → Type 0
 Fits [] w s = s ≡ []
 Fits (byte c ∷ K) w s = (r : List ℕ) × (s ≡ c ∷ r) × Fits K (isWord c) r
 Fits (test ∷ K) w s = (t : Test) × (r : List ℕ) × GoodT t × (s ≡ ahead w (piecesT t []) r) × Fits K (wordyT t) r
@@ -184,7 +184,7 @@ decimal-behind v d s l m =
     let r : (10 * v + d) % 10 ≡ d = omega arith in
     rw (decimal-more (10 * v + d) (omega arith), q, r, append-assoc (decimal v) (digit d ∷ []) s)
 
-pub digit-behind : (b v : ℕ) (s : List ℕ) → isDigit b ≡ true → 1 ≤ v
+digit-behind : (b v : ℕ) (s : List ℕ) → isDigit b ≡ true → 1 ≤ v
     → (m : ℕ) × (10 * v ≤ m) × (m ≤ 10 * v + 9) × (decimal v ++ (b ∷ s) ≡ decimal m ++ s)
 digit-behind b v s e l =
     let (d, i, q) = digit-of b e in
@@ -225,7 +225,7 @@ fits-end : (w : Bool) → Fits [] w []
 unfolding Fits
 fits-end w = refl
 
-pub digit-word : (b : ℕ) → isDigit b ≡ true → isWord b ≡ true
+digit-word : (b : ℕ) → isDigit b ≡ true → isWord b ≡ true
 unfolding isWord
 digit-word b e = rw e
 
@@ -276,7 +276,7 @@ ended-fits (afterAxis ∷ K) w e = let z : _≡_ {A = ℕ} 0 1 = cc in absurd (o
 ended-fits (afterStep ∷ K) w e = let z : _≡_ {A = ℕ} 0 1 = cc in absurd (omega arith)
 
 -- What is read whole fits.
-pub run-fits : (s : List ℕ) (w : Bool) (K : List Expected) → run w K s ≡ whole → Fits K w s
+run-fits : (s : List ℕ) (w : Bool) (K : List Expected) → run w K s ≡ whole → Fits K w s
 unfolding run
 run-fits [] w K e = go (ended K) refl e where
   go : (t : Bool) → ended K ≡ t → cond t whole (stopped []) ≡ whole → Fits K w []

@@ -22,7 +22,7 @@ use Rattle.paths.proofs.Machine.{isDigit, isWord}
 
 -- ---- pieces in bytes
 
-abbrev pub WordByte : ℕ → Type 0
+abbrev WordByte : ℕ → Type 0
 WordByte b = isWord b ≡ true
 
 -- The bytes begin with no letter and no digit.
@@ -31,7 +31,7 @@ Ends [] = Unit {0}
 Ends (b ∷ s) = isWord b ≡ false
 
 -- The words have bytes, all letters and digits.
-unfoldable pub Fine : List Piece → Type 0
+unfoldable Fine : List Piece → Type 0
 Fine [] = Unit {0}
 Fine (word x ∷ ps) = (1 ≤ length x) × Every WordByte x × Fine ps
 Fine (sign c ∷ ps) = Fine ps
@@ -106,7 +106,7 @@ gap-off true x y e = cc
 gap-off false x y e = e
 
 -- Two lists of pieces with the same bytes are equal.
-pub spell-only : (ps qs : List Piece) (w : Bool) → Fine ps → Fine qs → spell w ps ≡ spell w qs → ps ≡ qs
+spell-only : (ps qs : List Piece) (w : Bool) → Fine ps → Fine qs → spell w ps ≡ spell w qs → ps ≡ qs
 unfolding spell Fine
 spell-only [] [] w f g e = refl
 spell-only [] (word y ∷ qs) w f g e = absurd (omega (arith, simp length-append at (ap length e)))
@@ -279,7 +279,7 @@ module _ {A : Type 0} where
         read-axis a _ _ ∙ read-test t n (omega arith) (sign closing ∷ sign star ∷ sign c ∷ ps) _
 
 -- Two trees with the same pieces are equal.
-pub pieces-only : (t u : Test) → piecesT t [] ≡ piecesT u [] → t ≡ u
+pieces-only : (t u : Test) → piecesT t [] ≡ piecesT u [] → t ≡ u
 pieces-only t u e =
     let n = sizeT t + sizeT u in
     let x = read-test t n (omega arith) [] (λ v ps. some v) in

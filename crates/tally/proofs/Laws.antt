@@ -37,7 +37,7 @@ refused-not t = go (eqb (t .seen) 4294967295) (eqb (t .seen) (t .selected + t .�
     go false true p q z = (eqb-false _ _ p, eqb-true _ _ q)
 
 -- A tally that is refused is full or out of balance.
-pub refused-is : (t : Tally) → refused t ≡ true → Full t ⊎ (Balanced t → ⊥)
+refused-is : (t : Tally) → refused t ≡ true → Full t ⊎ (Balanced t → ⊥)
 unfolding refused
 refused-is t = go (eqb (t .seen) 4294967295) (eqb (t .seen) (t .selected + t .«passed_over»)) refl refl
   where

@@ -43,7 +43,7 @@ decimal-more n h =
     (ap (λ (ds : List ℕ). ds ++ (digit (n % 10) ∷ [])) (digits-enough n (suc (n / 10)) (n / 10) (omega arith) (omega arith)))
 
 -- What holds of each number below ten, and of every number of which it holds without its lowest digit, holds of every number.
-pub by-digits : (P : ℕ → Type 0) → ((n : ℕ) → n < 10 → P n) → ((n : ℕ) → 10 ≤ n → P (n / 10) → P n) → (n : ℕ) → P n
+by-digits : (P : ℕ → Type 0) → ((n : ℕ) → n < 10 → P n) → ((n : ℕ) → 10 ≤ n → P (n / 10) → P n) → (n : ℕ) → P n
 by-digits P one more n = go (suc n) n (omega arith)
   where
     go : (k n : ℕ) → n < k → P n
