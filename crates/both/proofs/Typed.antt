@@ -56,7 +56,7 @@ module _ (text lent after : List ℕ) (r : PathReply) (t : Test) (typed : Typed 
       let (u, y, (l, m)) = zero-iff text lent r after typed .0 zero in
       let same : u ≡ t = text-only u t (sym (y .spelt) ∙ spelt .spelt) in rw same at l
 
-  pub rule-is : rule ≡ bytesFor t
+  rule-is : rule ≡ bytesFor t
   rule-is =
       let (u, y, (l, m)) = zero-iff text lent r after typed .0 zero in
       let same : u ≡ t = text-only u t (sym (y .spelt) ∙ spelt .spelt) in

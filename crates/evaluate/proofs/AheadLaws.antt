@@ -1,6 +1,6 @@
 -- The passes for what elements after have: bit i of a word gathers what is given by those whose column leads there. Without turns where
 -- each gives a bit that it has; from the last element on where it gives its mark, once over what is looked for. Assumes nothing.
-use Prim.Native.Nat.{ℕ, zero, suc, _+_, _*_, _^_, _%_, _-_, _≤_, _<_}
+use Prim.Native.Nat.{ℕ, suc, _+_, _*_, _^_, _%_, _-_, _≤_, _<_}
 use native.Mathlib.Decide.{ℕ-discrete, decLt}
 use native.Mathlib.Nat.{eq-or-lt-of-le}
 use native.Mathlib.Numerals.{add-one}
@@ -9,17 +9,17 @@ use mathlib.Core.Path.{_≡_, refl, sym, ap, ap₂, subst, _∙_}
 use mathlib.Core.Bool.{Bool, true, false, cond, _&&_, _||_}
 use mathlib.Core.List.{List}
 use mathlib.Core.Logic.{⊎-elim}
-use mathlib.Core.Option.{Option, none, some}
+use mathlib.Core.Option.{some}
 use borrow.Author.Tests.{lt-ltb, le-ltb, eq-eqb, ne-eqb}
 use lib.Bits.{bitOr}
 use lib.Dec.{ltb, eqb}
 use lib.ListN.{length, getD, set, List·getD-eq-default}
-use Rattle.grammar.proofs.Tells.{holds, told-same, true-iff, eqb-told, and-told}
+use Rattle.grammar.proofs.Tells.{and-one, holds, told-same, true-iff, eqb-told, and-told}
 use Rattle.meaning.specs.Tree.{forward}
 use Rattle.meaning.specs.Marks.{at, anyBelow, bit, bitAt, someOf}
 use Rattle.meaning.proofs.Ways.{at-iff}
 use Rattle.meaning.proofs.Tests.{ahead, at-told, some-told, bool-told}
-use Rattle.evaluate.specs.Links.{leads, leadsTo}
+use Rattle.evaluate.specs.Links.{leads}
 use Rattle.evaluate.specs.Pass.{Passed, Room, bitsOf}
 use Rattle.evaluate.specs.Steps.{ownStep, givenStep, aheadMark, Nearest}
 use Rattle.evaluate.specs.declared.ahead.Look.{Look}
@@ -31,10 +31,6 @@ use Rattle.evaluate.proofs.StepLaws.{at-leads, ahead-own, anyFrom, anyF
 or-false : (x : Bool) → (x || false) ≡ x
 or-false true = refl
 or-false false = refl
-
-and-true : (x : Bool) → (x && true) ≡ x
-and-true true = refl
-and-true false = refl
 
 and-false : (x : Bool) → (x && false) ≡ false
 and-false true = refl
@@ -72,7 +68,7 @@ module _ (f : List ℕ) (t : ℕ) (l : t < length f) (q : Bool) where
       → at-put m (getD f t 0) (m (getD f t 0) || (ltb (getD f t 0) t && q)) s ≡ (m s || (at (leads f t) (λ u. eqb u s) && q))
   gathered m s =
       elim (ℕ-discrete s (getD f t 0)) [
-        | yes e ↦ rw (e, led (getD f t 0), eq-eqb (getD f t 0) (getD f t 0) refl, and-true)
+        | yes e ↦ rw (e, led (getD f t 0), eq-eqb (getD f t 0) (getD f t 0) refl, and-one)
         | no ne ↦ rw (ne-eqb s (getD f t 0) ne, led s, ne-eqb (getD f t 0) s (λ e. ne (sym e)), and-false) (sym (or-false _))
       ]
 

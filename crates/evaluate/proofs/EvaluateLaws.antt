@@ -8,7 +8,7 @@ use mathlib.Core.Bool.{Bool, true, false, cond}
 use mathlib.Core.List.{List, [], _∷_, _++_, map}
 use mathlib.Core.Logic.{⊎-elim}
 use lib.Dec.{ltb, eqb}
-use lib.ListN.{length, take, drop, length-map}
+use lib.ListN.{length, take, drop}
 use lib.Seq.{take-append-seam}
 use Rattle.records.specs.Answer.{countOf, placeOf}
 use Rattle.records.specs.Rule.{ruleAnswer}
@@ -24,9 +24,9 @@ use Rattle.grammar.specs.Rules.{RuleEntries}
 use Rattle.grammar.specs.Legal.{LegalLevels}
 use Rattle.grammar.proofs.WhenRule.{rule-numbers}
 use Rattle.grammar.proofs.WhenReport.{report-numbers}
-use Rattle.grammar.proofs.Entries.{entries-count, entries-few, entries-some, entry-formed}
+use Rattle.grammar.proofs.Entries.{entries-count, entries-few, rule-entries}
 use Rattle.grammar.proofs.Elements.{elements-count, levels-elements, levels-legal}
-use Rattle.meaning.specs.Marks.{words, selected, bit, bitAt}
+use Rattle.meaning.specs.Marks.{words, selected, bitAt}
 use Rattle.meaning.proofs.Words.{bit-small, words-length}
 use Rattle.evaluate.specs.Evaluation.{accepted, refused, judged, meantWords, evaluation, written, Evaluated, Reported, Weighed}
 use Rattle.evaluate.specs.Pass.{Marked}
@@ -40,14 +40,14 @@ use Rattle.grammar.proofs.Columns.{table-of-columns}
 pub filled-length : (xs lent : List ℕ) {last : List ℕ} (n : ℕ) → last ≡ over xs lent → length lent ≡ n → n ≡ length last
 filled-length xs lent n e l = sym (ap length e ∙ over-length xs lent ∙ l)
 
-pub filled-take : (xs lent : List ℕ) {last : List ℕ} (n : ℕ) → last ≡ over xs lent → length xs ≡ n → n ≤ length lent → take n last ≡ xs
+filled-take : (xs lent : List ℕ) {last : List ℕ} (n : ℕ) → last ≡ over xs lent → length xs ≡ n → n ≤ length lent → take n last ≡ xs
 filled-take xs lent n e l h =
     ap (take n) (e ∙ over-is xs lent (omega arith))
     ∙ subst (λ (k : ℕ). take k (xs ++ drop (length xs) lent) ≡ xs) l (take-append-seam xs (drop (length xs) lent))
 
 -- ---- the selected count is no more than there are words
 
-pub selected-few : (m : ℕ) (ws : List ℕ) → selected m ws ≤ length ws
+selected-few : (m : ℕ) (ws : List ℕ) → selected m ws ≤ length ws
 unfolding selected
 selected-few m [] = omega arith
 selected-few m (w ∷ ws) = omega (arith, bit-small (bitAt w (pred m)), selected-few m ws)
@@ -188,8 +188,7 @@ entries-read rule kinds firsts seconds {r} {n} {ks} {fs} {ss} a b c f e =
     let seconds-are : ss ≡ over (map bOf (entriesOf rule)) seconds = rw all at (f .seconds-are) in
     let le : length (entriesOf rule) ≡ n = entries-count rule ∙ ap countOf (sym is) in
     let few : n ≤ 64 = omega (arith, entries-few rule) in
-    let whole : RuleEntries (entriesOf rule) =
-    record { nonempty = omega (arith, entries-some rule n (sym is)); few = entries-few rule; formed = entry-formed rule } in
+    let whole : RuleEntries (entriesOf rule) = rule-entries rule n (sym is) in
     let table : tableOf n ks fs ss ≡ entriesOf rule =
     rw (kinds-are, firsts-are, seconds-are, ← le)
     (table-of-columns (entriesOf rule) kinds firsts seconds (omega arith) (omega arith) (omega arith)) in

@@ -1,16 +1,13 @@
 -- The marks of each kind's pass are the meaning's; the words after each entry; the words as the list that is promised.
 -- Assumes nothing.
-use Prim.Native.Nat.{ℕ, zero, suc, pred, _+_, _*_, _^_, _-_, _≤_, _<_}
+use Prim.Native.Nat.{ℕ, pred, _+_, _-_, _≤_, _<_}
 use native.Mathlib.Decide.{decLt}
-use native.Mathlib.Nat.{le-of-suc-le-suc}
 use native.Mathlib.Numerals.{add-one}
 use native.Mathlib.Omega.{arith}
-use lib.Arith.{lt-of-le-ne}
 use mathlib.Core.Path.{_≡_, refl, sym, ap, subst, _∙_}
 use mathlib.Core.Bool.{Bool, true, false, not, xor, _&&_, _||_}
-use mathlib.Core.List.{List, [], _∷_, _++_}
-use mathlib.Core.Option.{Option, some}
-use lib.ListN.{length, getD, take, drop}
+use mathlib.Core.List.{List}
+use lib.ListN.{length, getD, take}
 use lib.Seq.{ext-getD, take-at, take-suc}
 use Rattle.records.specs.declared.rule.Entry.{Entry}
 use Rattle.records.specs.Tables.{over}
@@ -34,12 +31,11 @@ use Rattle.meaning.proofs.Tests.{bool-told}
 use Rattle.meaning.proofs.Reflect.{means-told}
 use Rattle.meaning.proofs.OneStep.{mark-rule, plain}
 use Rattle.meaning.proofs.Words.{pred-sub, bit-small, word-bit, word-lt, words-length, words-at, selected-more}
-use Rattle.evaluate.specs.Links.{leads, Leads, Linked}
+use Rattle.evaluate.specs.Links.{leads, Linked}
 use Rattle.evaluate.specs.Pass.{Stored, Passed, Room, bitsOf, Marked}
 use Rattle.evaluate.specs.Steps.{alongMark, columnOf, aheadMark, Nearest}
 use Rattle.grammar.specs.Columns.{tableOf, entryIn}
-use Rattle.evaluate.specs.declared.ahead.Look.{Look}
-use Rattle.evaluate.specs.declared.ahead.Look.the-variants.{Until, Every}
+use Rattle.evaluate.specs.declared.ahead.Look.the-variants.{Every}
 use Rattle.evaluate.proofs.LinkLaws.{ups-all, lefts-all, parent-next}
 use Rattle.evaluate.proofs.PassLaws.{stored-start, stored-same, passed-start}
 use Rattle.grammar.proofs.Columns.{table-length, table-at}
@@ -136,7 +132,7 @@ module _ {levels ups lefts : List ℕ} (linked : Linked levels ups lefts) (label
 -- ---- the entries
 
 -- A kind asks a and b at elements only.
-pub means-same : (levels labels : List ℕ) (k : Shape) (l : ℕ) (a a′ b b′ : ℕ → Bool)
+means-same : (levels labels : List ℕ) (k : Shape) (l : ℕ) (a a′ b b′ : ℕ → Bool)
     → ((t : ℕ) → t < length levels → a t ≡ a′ t) → ((t : ℕ) → t < length levels → b t ≡ b′ t) → (s : ℕ) → s < length levels
     → means levels labels k l a b s ≡ means levels labels k l a′ b′ s
 means-same levels labels k l a a′ b b′ ea eb s h =
@@ -170,7 +166,7 @@ module _ (levels labels : List ℕ) (entries : List Entry) where
       ])
 
   -- One entry more.
-  pub entry-turn : RuleEntries entries → (i : ℕ) → i < length entries → {before ws after : List ℕ}
+  entry-turn : RuleEntries entries → (i : ℕ) → i < length entries → {before ws after : List ℕ}
       → Stored (length levels) (wordUpTo i) before ws
       → Passed (length levels) i (means levels labels (shapeOf (entry i .kind)) (entry i .a) (bitsOf ws (entry i .a)) (bitsOf ws (entry i .b))) ws after
       → Stored (length levels) (wordUpTo (i + 1)) before after
@@ -199,7 +195,7 @@ module _ (levels labels : List ℕ) (entries : List Entry) where
       }
 
   -- The words as the list that is promised.
-  pub words-over : {before after : List ℕ} → length levels ≤ length before
+  words-over : {before after : List ℕ} → length levels ≤ length before
       → Stored (length levels) (wordOf entries levels labels) before after → after ≡ over (words entries levels labels) before
   words-over {before} {after} room r =
       let n = words-length entries levels labels in

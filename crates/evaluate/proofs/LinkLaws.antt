@@ -1,6 +1,6 @@
 -- Laws of the columns of parents and previous siblings: where a column leads, and one element more of the pass that fills them.
 -- Assumes nothing.
-use Prim.Native.Nat.{ℕ, zero, suc, _+_, _-_, _≤_, _<_}
+use Prim.Native.Nat.{ℕ, zero, suc, _+_, _≤_, _<_}
 use native.Mathlib.Decide.{ℕ-discrete, decLt}
 use native.Mathlib.Nat.{eq-or-lt-of-le, le-of-suc-le-suc}
 use native.Mathlib.Numerals.{add-one}
@@ -33,7 +33,7 @@ unfolding leads
 leads-at f s l = rw (getD-any f s s 0)
 
 -- Past its end a column leads nowhere.
-pub leads-past : (f : List ℕ) (s : ℕ) → length f ≤ s → leads f s ≡ none
+leads-past : (f : List ℕ) (s : ℕ) → length f ≤ s → leads f s ≡ none
 unfolding leads
 leads-past f s l = rw (List·getD-eq-default f s l, le-ltb s s (omega arith))
 
@@ -67,7 +67,7 @@ pub leads-finds : (f : List ℕ) → Finds (λ t s. leads f s ≡ some t) (leads
 leads-finds f = record { is = λ s t. (λ e. e, λ e. e); down = leads-down f; inside = leads-inside f }
 
 -- A column as long as there are elements, which leads as F does and F leads from elements only, leads as F everywhere.
-pub leads-all : (F : ℕ → Option ℕ) (n : ℕ) (f : List ℕ) → ((s : ℕ) → n ≤ s → F s ≡ none) → length f ≡ n → Leads F n f → leads f ≡ F
+leads-all : (F : ℕ → Option ℕ) (n : ℕ) (f : List ℕ) → ((s : ℕ) → n ≤ s → F s ≡ none) → length f ≡ n → Leads F n f → leads f ≡ F
 leads-all F n f out e r =
     fun-ext (λ s. elim (decLt s n) [
       | yes l ↦ r .lead s l
@@ -75,7 +75,7 @@ leads-all F n f out e r =
     ])
 
 -- One number more.
-pub leads-next : {F : ℕ → Option ℕ} {f : List ℕ} (k v : ℕ) → k < length f → v ≤ k → leadsTo k v ≡ F k → Leads F k f
+leads-next : {F : ℕ → Option ℕ} {f : List ℕ} (k v : ℕ) → k < length f → v ≤ k → leadsTo k v ≡ F k → Leads F k f
     → Leads F (k + 1) (set f k v)
 unfolding leads
 leads-next {F} {f} k v l h e r = record { lead = lead; near = near } where
@@ -113,7 +113,7 @@ pub record LinkMid (levels ups lefts held : List ℕ) (depth s : ℕ) : Type 0 w
 leads-none : (F : ℕ → Option ℕ) (f : List ℕ) → Leads F 0 f
 leads-none F f = record { lead = λ s l. absurd (omega arith); near = λ s l. absurd (omega arith) }
 
-pub link-start : (levels ups lefts held : List ℕ) → length ups ≡ length levels → length lefts ≡ length levels → 64 ≤ length held
+link-start : (levels ups lefts held : List ℕ) → length ups ≡ length levels → length lefts ≡ length levels → 64 ≤ length held
     → LinkMid levels ups lefts held 0 0
 link-start levels ups lefts held u f h =
     record {
@@ -127,18 +127,13 @@ link-start levels ups lefts held u f h =
       stack = λ e l. absurd (omega arith);
     }
 
--- What is written for an element below level 0.
-pub up-under : (held : List ℕ) (d s : ℕ) → (d ≡ 0 → ⊥) → upOf held d s ≡ getD held (d - 1) 0
-up-under held zero s n = absurd (n refl)
-up-under held (suc d) s n = let e : d ≡ suc d - 1 = omega arith in ap (λ (k : ℕ). getD held k 0) e
-
 module _ {levels ups lefts held : List ℕ} {depth s : ℕ} (legal : LegalLevels levels) (mid : LinkMid levels ups lefts held depth s)
     (l : s < length levels) where
   abbrev d : ℕ
   d = getD levels s 0
 
   -- The level of the element in hand is held, or one past those held.
-  pub d-le : d ≤ depth
+  d-le : d ≤ depth
   d-le = go s refl where
     go : (k : ℕ) → s ≡ k → d ≤ depth
     go zero e = rw e (omega (arith, legal .root))
@@ -189,7 +184,7 @@ module _ {levels ups lefts held : List ℕ} {depth s : ℕ} (legal : LegalLevels
       ]
 
   -- One turn.
-  pub link-turn : LinkMid levels (set ups s (upOf held d s)) (set lefts s (leftOf held d depth s)) (set held d s) (d + 1) (s + 1)
+  link-turn : LinkMid levels (set ups s (upOf held d s)) (set lefts s (leftOf held d depth s)) (set held d s) (d + 1) (s + 1)
   link-turn =
       record {
         within = omega arith;
@@ -270,7 +265,7 @@ module _ {levels ups lefts held : List ℕ} {s : ℕ} (legal : LegalLevels level
   after = set (set held (suc at) s) (suc (suc at)) (suc s)
 
   -- One turn.
-  pub more-turn : LinkMore levels (set ups s (getD held at 0)) (set lefts s (getD held (suc at) 0)) after (s + 1)
+  more-turn : LinkMore levels (set ups s (getD held at 0)) (set lefts s (getD held (suc at) 0)) after (s + 1)
   more-turn =
       record {
         depth = suc at;

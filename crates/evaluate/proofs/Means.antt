@@ -2,7 +2,7 @@
 -- holds at element s, over the whole tree; the selected count is the number of elements at which the last entry holds; and the words
 -- past the last element are as they were.
 -- Assumes nothing.
-use Prim.Native.Nat.{ℕ, pred, _≤_, _<_}
+use Prim.Native.Nat.{ℕ, _≤_, _<_}
 use native.Mathlib.Omega.{arith}
 use borrow.Author.Tests.{ltb-false}
 use mathlib.Core.Path.{_≡_, refl, sym, ap, _∙_}

@@ -1,12 +1,11 @@
 -- Laws of the words that a pass stores: one word more, the bits of a word in the midst of a pass, passes from the first element on.
 -- Assumes nothing.
-use Prim.Native.Nat.{ℕ, zero, suc, _+_, _*_, _^_, _%_, _≤_, _<_}
+use Prim.Native.Nat.{ℕ, _+_, _*_, _^_, _%_, _≤_, _<_}
 use native.Mathlib.Decide.{ℕ-discrete, decLt}
-use native.Mathlib.Nat.{zero-mul, zero-add, eq-or-lt-of-le}
-use native.Mathlib.Numerals.{add-one}
+use native.Mathlib.Nat.{zero-mul, zero-add}
 use native.Mathlib.Omega.{arith}
-use mathlib.Core.Path.{_≡_, refl, sym, ap, subst, _∙_}
-use mathlib.Core.Bool.{Bool, true, false, cond, _&&_, _||_}
+use mathlib.Core.Path.{_≡_, refl, sym, ap, _∙_}
+use mathlib.Core.Bool.{Bool, false, cond, _&&_, _||_}
 use mathlib.Core.List.{List}
 use borrow.Author.Tests.{lt-ltb, le-ltb, eq-eqb, ne-eqb}
 use lib.Bits.{bitOr}
@@ -33,7 +32,7 @@ module _ (n : ℕ) (before : List ℕ) where
   stored-same e r = record { long = r .long; put = λ s l. r .put s l ∙ e s l; kept = r .kept }
 
   -- One store among the first n words.
-  pub stored-set : {w : ℕ → ℕ} {after : List ℕ} (t v : ℕ) → n ≤ length before → t < n → Stored n w before after
+  stored-set : {w : ℕ → ℕ} {after : List ℕ} (t v : ℕ) → n ≤ length before → t < n → Stored n w before after
       → Stored n (at-put w t v) before (set after t v)
   stored-set {w} {after} t v room l r =
       record {
@@ -92,7 +91,7 @@ module _ {n i : ℕ} {before : List ℕ} (room : Room n i before) where
     pub passed-under : (a : ℕ) → a < i → bitAt (getD after s 0) a ≡ bitsOf before a s
     passed-under a la = rw (r .stored .put s l) (bit-under i a (m s) (getD before s 0) la)
 
-    pub passed-rest : getD after s 0 % 2 ^ i ≡ getD before s 0
+    passed-rest : getD after s 0 % 2 ^ i ≡ getD before s 0
     passed-rest = rw (r .stored .put s l) (low (bit (m s)) i (room .small s l))
 
     -- One element's mark joined by another.

@@ -1,16 +1,16 @@
 -- The marks of a pass are its steps: at each element, what the step makes of the element's own bits and of those one step away.
 -- Once over every function F that finds a relation backward among n elements. Assumes nothing.
-use Prim.Native.Nat.{ℕ, zero, suc, _≤_, _<_}
+use Prim.Native.Nat.{ℕ, suc, _≤_, _<_}
 use native.Mathlib.Nat.{eq-or-lt-of-le}
 use native.Mathlib.Omega.{arith}
-use mathlib.Core.Path.{_≡_, refl, sym, ap, subst, _∙_}
-use mathlib.Core.Bool.{Bool, true, false, cond, not, _&&_, _||_}
+use mathlib.Core.Path.{_≡_, refl, sym, ap, subst}
+use mathlib.Core.Bool.{Bool, true, false, cond, _&&_, _||_}
 use mathlib.Core.List.{List}
 use mathlib.Core.Logic.{inl, inr, ⊎-elim}
 use mathlib.Core.Option.{Option, none, some}
-use lib.Dec.{leb, ltb, eqb}
+use lib.Dec.{leb, ltb}
 use lib.ListN.{length, getD}
-use Rattle.grammar.proofs.Tells.{Told, holds, fails, told-same, leb-told, or-told, and-told}
+use Rattle.grammar.proofs.Tells.{Told, fails, told-same, leb-told, or-told, and-told}
 use Rattle.meaning.specs.Tree.{forward, backward}
 use Rattle.meaning.specs.Marks.{at, anyBelow, bitAt, someOf, everyOf}
 use Rattle.meaning.proofs.Tests.{Finds, ahead, behind, bool-told, any-told, until-is}
@@ -41,7 +41,7 @@ gate-turn {n} {i} {before} {after} g a b s room l r =
     (ascent-word room (λ s. gateMark g (bitsOf before a s) (bitsOf before b s)) s l r)
 
 -- The mark is the step over the element's own bits and over bit a and the mark where F leads.
-pub back-own : {R : ℕ → ℕ → Type 0} {F : ℕ → Option ℕ} {n : ℕ} → Finds R F n → (until : Bool) (a b : ℕ → Bool) (s : ℕ) → s < n
+back-own : {R : ℕ → ℕ → Type 0} {F : ℕ → Option ℕ} {n : ℕ} → Finds R F n → (until : Bool) (a b : ℕ → Bool) (s : ℕ) → s < n
     → alongMark until backward n F a b s ≡ backStep until (a s) (b s) (at (F s) a) (at (F s) (alongMark until backward n F a b))
 unfolding alongMark someOf
 back-own finds true a b s l = until-is (behind finds) a b s l

@@ -5,7 +5,7 @@ use Prim.Native.Nat.{ℕ, _+_, _*_, _^_, _≤_, _<_}
 use mathlib.Core.Path.{_≡_}
 use mathlib.Core.Bool.{Bool}
 use mathlib.Core.List.{List}
-use lib.ListN.{length, getD, take}
+use lib.ListN.{length, getD}
 use Rattle.records.specs.declared.rule.Entry.{Entry}
 use Rattle.records.specs.Tables.{over}
 use Rattle.meaning.specs.Marks.{bit, bitAt, words, selected}

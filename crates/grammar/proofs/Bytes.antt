@@ -4,10 +4,10 @@ use Prim.Native.Nat.{ℕ, suc, _+_, _*_, _/_, _%_, _<_}
 use native.Mathlib.Nat.{div-add-mod', add-mul-mod-self-left, add-mul-div-left, mod-eq-of-lt, div-eq-of-lt, add-assoc, zero-add}
 use native.Mathlib.Numerals.{add-one}
 use native.Mathlib.Omega.{arith}
-use mathlib.Core.Path.{_≡_, ap, sym, _∙_}
+use mathlib.Core.Path.{_≡_, sym}
 use mathlib.Core.List.{List, [], _∷_, _++_}
 use lib.ListN.{length, take, drop, take-append-drop}
-use lib.Seq.{drop-cons, drop-drop, take-add, getD-drop, getD-append-add}
+use lib.Seq.{drop-cons, drop-drop, take-add, getD-append-add}
 use Rattle.records.specs.Bytes.{numberAt}
 use Rattle.grammar.specs.Bytes.{twoBytes, Bytes}
 
@@ -16,12 +16,8 @@ pub number-back : (n : ℕ) (rest : List ℕ) → numberAt (twoBytes n ++ rest) 
 unfolding numberAt twoBytes
 number-back n rest = omega (arith, div-add-mod' n 256)
 
--- Two numbers with the same two bytes are one.
-pub two-bytes-only : (n m : ℕ) → twoBytes n ≡ twoBytes m → n ≡ m
-two-bytes-only n m e = sym (number-back n []) ∙ ap (λ (b : List ℕ). numberAt (b ++ []) 0) e ∙ number-back m []
-
 -- Two bytes are the bytes of the number that they make.
-pub two-bytes-of : (x y : ℕ) → x < 256 → x ∷ y ∷ [] ≡ twoBytes (x + 256 * y)
+two-bytes-of : (x y : ℕ) → x < 256 → x ∷ y ∷ [] ≡ twoBytes (x + 256 * y)
 unfolding twoBytes
 two-bytes-of x y h =
     sym (rw (add-mul-mod-self-left x 256 y, add-mul-div-left x y {y = 256} (omega arith), mod-eq-of-lt h, div-eq-of-lt h, zero-add))
@@ -51,10 +47,6 @@ bytes-split s at bytes h = rw (← bytes-back s at bytes h, ← drop-drop 2 at s
 pub bytes-more : (s : List ℕ) (at m : ℕ) → Bytes s → at + 1 < length s
     → take (2 + m) (drop at s) ≡ twoBytes (numberAt s at) ++ take m (drop (at + 2) s)
 bytes-more s at m bytes h = rw (take-add 2 m (drop at s), drop-drop 2 at s, bytes-back s at bytes h)
-
--- What is left of a byte string is a byte string.
-pub bytes-drop : (s : List ℕ) (n : ℕ) → Bytes s → Bytes (drop n s)
-bytes-drop s n bytes i = rw getD-drop (bytes (n + i))
 
 -- Reading a number after a number's two bytes is reading it in the rest.
 pub number-after : (n : ℕ) (rest : List ℕ) (k : ℕ) → numberAt (twoBytes n ++ rest) (2 + k) ≡ numberAt rest k

@@ -4,7 +4,7 @@ use Prim.Native.Nat.{ℕ, suc, _≤_, _<_}
 use native.Mathlib.Omega.{arith}
 use native.Mathlib.Nat.{eq-or-lt-of-le, le-of-suc-le-suc}
 use mathlib.Core.Path.{_≡_, refl, ap, subst, sym, _∙_}
-use mathlib.Core.Bool.{Bool, true, false, cond, not, _||_}
+use mathlib.Core.Bool.{Bool, true, false, cond, _||_}
 use mathlib.Core.List.{List}
 use mathlib.Core.Logic.{_⊎_, inl, inr, _↔_}
 use lib.Dec.{ltb, eqb}
@@ -47,7 +47,7 @@ module _ (fault : ℕ → ℕ) (s : List ℕ) where
       first-is (stopsAt fault s) bound i h (goes-on i (omega (arith, r .at-end)) (r .clean)) (λ l. true-iff (stops-told i) .1 (inl (r .at-end)))
 
   -- At the first record at fault the search stops.
-  pub fails-first : (bound i p : ℕ) → i ≤ bound → Fails fault s i p → first (stopsAt fault s) bound ≡ i
+  fails-first : (bound i p : ℕ) → i ≤ bound → Fails fault s i p → first (stopsAt fault s) bound ≡ i
   fails-first bound i p h r =
       first-is (stopsAt fault s) bound i h (goes-on i (omega (arith, r .reached .begins, r .reached .there)) (r .reached .clean))
       (λ l. true-iff (stops-told i) .1 (inr (r .at-fault)))
@@ -89,7 +89,7 @@ module _ (fault : ℕ → ℕ) (s : List ℕ) where
           })
 
     -- What the search finds is where the string ends, or the first record at fault.
-    pub first-decides : Ended fault s (first (stopsAt fault s) bound)
+    first-decides : Ended fault s (first (stopsAt fault s) bound)
         ⊎ Fails fault s (first (stopsAt fault s) bound) (startOf s (first (stopsAt fault s) bound))
     first-decides = decides-at _ (first-before (stopsAt fault s) bound) (first-there (stopsAt fault s) bound)
 

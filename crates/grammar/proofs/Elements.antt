@@ -42,7 +42,7 @@ module _ (s : List ℕ) where
         rw (report-last s (h .0) (h .1)) (record { fit = clean-fit s (h .0) (h .1 .clean); ended = h .2 })
 
     -- An accepted report's tags open as many elements as the answer says.
-    pub accepted-opened : opened (tagsOf s) ≡ n
+    accepted-opened : opened (tagsOf s) ≡ n
     accepted-opened = let h = report-accepted-iff s n .0 accepted .1 in rw (report-last s (h .0) (h .1)) (h .3)
 
     accepted-tags : tagsOf s ≡ [] → ⊥

@@ -7,7 +7,7 @@ use native.Mathlib.Decide.{decLt}
 use mathlib.Core.Path.{_≡_, refl, ap, _∙_}
 use mathlib.Core.List.{List, []}
 use mathlib.Core.Logic.{inl, inr}
-use lib.ListN.{length, getD, length-append, List·getD-append}
+use lib.ListN.{length, getD, List·getD-append}
 use lib.Seq.{getD-at}
 use borrow.Author.Tests.{lt-leb}
 use Rattle.records.specs.Answer.{countOf}
@@ -19,10 +19,11 @@ use Rattle.records.specs.declared.answer.Answer.{Answer}
 use Rattle.records.specs.declared.answer.Answer.the-variants.{Accepted, Refused}
 use Rattle.records.specs.declared.kind.Numbers.the-variants.{Entries}
 use Rattle.records.specs.declared.rule.Entry.{Entry}
-use Rattle.grammar.specs.Rules.{noEntry, WellFormed}
+use Rattle.grammar.specs.Rules.{noEntry, WellFormed, RuleEntries}
 use Rattle.grammar.specs.When.{Sized, bad-label, bad-a, bad-b, Ended}
 use Rattle.grammar.proofs.Frame.{unfaulty-sound}
 use Rattle.records.proofs.Rows.{known-range, kind-label, kind-entries}
+use Rattle.records.proofs.TableLaws.{entries-length}
 use Rattle.grammar.proofs.WhenRule.{fault-0-iff, rule-accepted-iff}
 
 -- ---- a well-formed entry
@@ -52,7 +53,7 @@ module _ (own : ℕ) (e : Entry) (formed : WellFormed own e) where
   formed-b l = formed-entries (kind-entries (e .kind) l (formed-kind .1)) .1
 
   -- Its label is in 1..999, where it has one.
-  pub formed-label : e .kind ≡ 2 → (1 ≤ e .a) × (e .a ≤ 999)
+  formed-label : e .kind ≡ 2 → (1 ≤ e .a) × (e .a ≤ 999)
   formed-label k =
       let h = ap (λ (x : ℕ). rowOf x .numbers) k ∙ kind-label in
       let low : e .a < 1 → ⊥ = λ o. formed .directed (bad-label h (inl o)) in
@@ -60,7 +61,7 @@ module _ (own : ℕ) (e : Entry) (formed : WellFormed own e) where
 
 module _ (s : List ℕ) where
   -- The entry read at a record without fault is well formed.
-  pub entry-at-formed : (i : ℕ) → ruleFaults s i ≡ 0 → WellFormed i (entryAt s (startOf s i))
+  entry-at-formed : (i : ℕ) → ruleFaults s i ≡ 0 → WellFormed i (entryAt s (startOf s i))
   unfolding entryAt entryOf
   entry-at-formed i z =
       let f = fault-0-iff s i (startOf s i) .0 z .1 in
@@ -73,20 +74,14 @@ module _ (s : List ℕ) where
 
   -- ---- the entries of the first records
 
-  -- There are as many as records.
-  pub before-length : (n : ℕ) → length (entriesBefore s n) ≡ n
-  unfolding entriesBefore
-  before-length zero = refl
-  before-length (suc n) = rw length-append (omega (arith, before-length n))
-
   -- Entry i is the one read at record i.
   pub before-at : (n i : ℕ) → i < n → getD (entriesBefore s n) i noEntry ≡ entryAt s (startOf s i)
   unfolding entriesBefore
   before-at zero i l = absurd (omega arith)
   before-at (suc n) i l =
       elim (eq-or-lt-of-le (le-of-suc-le-suc l)) [
-        | inl e ↦ rw e (getD-at (entriesBefore s n) (entryAt s (startOf s n)) [] noEntry n (before-length n))
-        | inr m ↦ List·getD-append (entriesBefore s n) _ noEntry i (omega (arith, before-length n)) ∙ before-at n i m
+        | inl e ↦ rw e (getD-at (entriesBefore s n) (entryAt s (startOf s n)) [] noEntry n (entries-length s n))
+        | inr m ↦ List·getD-append (entriesBefore s n) _ noEntry i (omega (arith, entries-length s n)) ∙ before-at n i m
       ]
 
   -- ---- the entries of a rule
@@ -94,7 +89,7 @@ module _ (s : List ℕ) where
   -- A rule has as many entries as its answer says: none where it is refused.
   pub entries-count : length (entriesOf s) ≡ countOf (ruleAnswer s)
   unfolding entriesOf
-  entries-count = before-length (countOf (ruleAnswer s))
+  entries-count = entries-length s (countOf (ruleAnswer s))
 
   accepted-clean : (a : Answer) → ruleAnswer s ≡ a → (countOf a ≤ 64) × ((i : ℕ) → i < countOf a → ruleFaults s i ≡ 0)
   accepted-clean (Accepted n) e = let r = rule-accepted-iff s n .0 e .1 in (r .1, r .0 .clean)
@@ -118,6 +113,11 @@ module _ (s : List ℕ) where
   entry-formed i l =
       let m : i < countOf (ruleAnswer s) = omega (arith, entries-count) in
       rw (before-at (countOf (ruleAnswer s)) i m) (entry-at-formed i (accepted-clean (ruleAnswer s) refl .1 i m))
+
+  -- The entries of an accepted rule are a rule's.
+  pub rule-entries : (n : ℕ) → ruleAnswer s ≡ Accepted n → RuleEntries (entriesOf s)
+  rule-entries n e =
+      record { nonempty = omega (arith, entries-some n e, entries-count, ap countOf e); few = entries-few; formed = entry-formed }
 
   module _ (i : ℕ) (there : i < length (entriesOf s)) where
     -- The kind of a rule's entry is one of 1 to 14.

@@ -56,7 +56,7 @@ fit-labelled (opens l ∷ ts) d e h =
 fit-labelled (closes ∷ ts) d e h = fit-labelled ts (pred d) (e + 0) (h .1)
 
 -- The levels of tags that fit are no more than 63.
-pub fit-low : (ts : List Tag) (d e : ℕ) → Fit d e ts → (i : ℕ) → i < length (levelsFrom d ts) → getD (levelsFrom d ts) i 0 ≤ 63
+fit-low : (ts : List Tag) (d e : ℕ) → Fit d e ts → (i : ℕ) → i < length (levelsFrom d ts) → getD (levelsFrom d ts) i 0 ≤ 63
 unfolding Fit levelsFrom depthFrom
 fit-low [] d e h i m = absurd (not-suc-le-zero m)
 fit-low (opens l ∷ ts) d e h zero m = omega (arith, opens-well-iff d e l .0 (h .0) .shallow)
@@ -64,7 +64,7 @@ fit-low (opens l ∷ ts) d e h (suc i) m = fit-low ts (suc d) _ (h .1) i (le-of-
 fit-low (closes ∷ ts) d e h i m = fit-low ts (pred d) _ (h .1) i m
 
 -- After an element at level p, the next is below the root and at most one level below it.
-pub fit-next : (ts : List Tag) (d e p : ℕ) → 1 ≤ e → d ≤ suc p → Fit d e ts → (i : ℕ) → i < length (levelsFrom d ts)
+fit-next : (ts : List Tag) (d e p : ℕ) → 1 ≤ e → d ≤ suc p → Fit d e ts → (i : ℕ) → i < length (levelsFrom d ts)
     → (1 ≤ getD (levelsFrom d ts) i 0) × (getD (levelsFrom d ts) i 0 ≤ suc (getD (p ∷ levelsFrom d ts) i 0))
 unfolding Fit levelsFrom depthFrom labels
 fit-next [] d e p le ld h i m = absurd (not-suc-le-zero m)

@@ -1,20 +1,17 @@
--- Laws of one record and of where records begin: a record is broken exactly where it is faulty; records after a list that stands
--- in front are the rest's; records without fault lie within the string. Assumes nothing.
+-- Laws of one record and of where records begin: the test of a record tells whether it is faulty; records without fault lie within
+-- the string. Assumes nothing.
 use Prim.Native.Nat.{ℕ, zero, suc, _+_, _-_, _*_, _≤_, _<_}
-use native.Mathlib.Nat.{add-assoc, add-zero, add-suc}
+use native.Mathlib.Nat.{add-zero, add-suc}
 use native.Mathlib.Omega.{arith}
 use mathlib.Core.Path.{_≡_, refl}
-use mathlib.Core.Bool.{Bool, true, false, cond}
-use mathlib.Core.List.{List, _++_}
-use mathlib.Core.Logic.{_↔_}
-use lib.Dec.{ltb}
-use lib.ListN.{length, length-append}
+use mathlib.Core.Bool.{Bool, cond}
+use mathlib.Core.List.{List}
+use lib.ListN.{length}
 use Rattle.records.specs.Bytes.{numberAt}
 use Rattle.records.specs.Frame.{frameOf, kindAt, broken, nextOf, startOf}
 use Rattle.records.specs.declared.frame.Frame.the-variants.{Whole, Cut, Garbled}
 use Rattle.grammar.specs.When.{Faulty, few-left, unknown-kind, wrong-length, past-end}
-use Rattle.grammar.proofs.Bytes.{number-shift}
-use Rattle.grammar.proofs.Tells.{Told, holds, fails, true-iff, false-iff, told-same, told-stable, ltb-told, eqb-told}
+use Rattle.grammar.proofs.Tells.{Told, holds, fails, told-stable, ltb-told, eqb-told}
 
 -- ---- one record
 
@@ -50,14 +47,6 @@ module _ (lengths : ℕ → ℕ) (s : List ℕ) (at : ℕ) where
       broken-told-at (ltb-told (length s) (at + 4)) (eqb-told (lengths (kindAt s at)) 0)
       (eqb-told (numberAt s at) (lengths (kindAt s at))) (ltb-told (length s) (at + 2 + lengths (kindAt s at)))
 
-  -- A record is broken exactly where it is faulty.
-  pub broken-iff : (broken (frameOf s at (lengths (kindAt s at))) ≡ true) ↔ Faulty lengths s at
-  broken-iff = true-iff broken-told
-
-  -- A record is whole exactly where it is not faulty.
-  pub whole-iff : (broken (frameOf s at (lengths (kindAt s at))) ≡ false) ↔ (Faulty lengths s at → ⊥)
-  whole-iff = false-iff broken-told
-
   -- A record that is not faulty is sound.
   pub unfaulty-sound : (Faulty lengths s at → ⊥) → Sound
   unfaulty-sound n =
@@ -69,30 +58,6 @@ module _ (lengths : ℕ → ℕ) (s : List ℕ) (at : ℕ) where
         right = told-stable (eqb-told (numberAt s at) (lengths (kindAt s at))) (λ m. n (wrong-length m));
         fits = omega arith;
       }
-
--- ---- a record after a list that stands in front
-module _ (xs ys : List ℕ) (k : ℕ) where
-  -- The kind at an offset after the list is that at the offset in the rest.
-  pub kind-shift : kindAt (xs ++ ys) (length xs + k) ≡ kindAt ys k
-  kind-shift = rw add-assoc (number-shift xs ys (k + 2))
-
-  -- The next record begins as far after the list as it does in the rest.
-  pub next-shift : nextOf (xs ++ ys) (length xs + k) ≡ length xs + nextOf ys k
-  unfolding nextOf
-  next-shift = rw number-shift (omega arith)
-
-  left-shift : (m : ℕ) → ltb (length (xs ++ ys)) (length xs + k + m) ≡ ltb (length ys) (k + m)
-  left-shift m =
-      told-same (ltb-told (length (xs ++ ys)) (length xs + k + m)) (ltb-told (length ys) (k + m))
-      (λ h. omega (arith, length-append xs ys), λ h. omega (arith, length-append xs ys))
-
-  left-shift-more : (m : ℕ) → ltb (length (xs ++ ys)) (length xs + k + 2 + m) ≡ ltb (length ys) (k + 2 + m)
-  left-shift-more m = rw (add-assoc (length xs + k) 2 m, add-assoc k 2 m) (left-shift (2 + m))
-
-  -- The record at an offset after the list is the record at that offset in the rest.
-  pub frame-shift : (expected : ℕ) → frameOf (xs ++ ys) (length xs + k) expected ≡ frameOf ys k expected
-  unfolding frameOf
-  frame-shift expected = rw (left-shift 4, number-shift, left-shift-more expected)
 
 -- ---- where records begin
 module _ (s : List ℕ) where
@@ -109,10 +74,6 @@ module _ (s : List ℕ) where
   pub start-far : (i j : ℕ) → i ≤ j → startOf s i + 2 * (j - i) ≤ startOf s j
   start-far i j h = let e : i + (j - i) ≡ j = omega arith in rw e at (start-grows i (j - i))
 
-  -- Later records do not begin earlier.
-  pub start-mono : (i j : ℕ) → i ≤ j → startOf s i ≤ startOf s j
-  start-mono i j h = omega (arith, start-far i j h)
-
   -- Later records begin later.
   pub start-strict : (i j : ℕ) → i < j → startOf s i < startOf s j
   start-strict i j h = omega (arith, start-far i j (omega arith))
@@ -122,10 +83,3 @@ module _ (s : List ℕ) where
   unfolding startOf
   start-within lengths zero h = omega arith
   start-within lengths (suc i) h = omega (arith, start-step i, unfaulty-sound lengths s (startOf s i) (h i (omega arith)) .fits)
-
--- Where a record begins at the end of the list in front, the records from it on begin as those of the rest do.
-pub start-shift : (xs ys : List ℕ) (m i : ℕ) → startOf (xs ++ ys) m ≡ length xs
-    → startOf (xs ++ ys) (m + i) ≡ length xs + startOf ys i
-unfolding startOf
-start-shift xs ys m zero e = rw (add-zero m, add-zero (length xs)) e
-start-shift xs ys m (suc i) e = rw (add-suc m i, start-shift xs ys m i e, next-shift)

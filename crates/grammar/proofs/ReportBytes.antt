@@ -10,8 +10,8 @@ use mathlib.Core.Path.{_≡_, refl, sym, ap, _∙_, subst}
 use mathlib.Core.Bool.{Bool, cond}
 use mathlib.Core.List.{List, [], _∷_, _++_, append-assoc, append-nil}
 use mathlib.Core.Logic.{_↔_, ⊎-elim}
-use lib.ListN.{length, take, drop, length-append, length-drop}
-use lib.Seq.{drop-length, take-at}
+use lib.ListN.{length, drop, length-append}
+use lib.Seq.{drop-length}
 use Rattle.records.specs.Bytes.{numberAt}
 use Rattle.records.specs.Frame.{kindAt, nextOf, startOf}
 use Rattle.records.specs.Tags.{Tag, opens, closes, opened}
@@ -23,7 +23,7 @@ use Rattle.grammar.specs.Reports.{Tree, tagBytes, bytesOf, tagsT, sizeT,
 use Rattle.grammar.specs.When.{Faulty, Ended}
 use Rattle.grammar.proofs.Bytes.{number-back, number-shift, bytes-split}
 use Rattle.grammar.proofs.Tells.{Told, holds, fails, eqb-told}
-use Rattle.grammar.proofs.Frame.{Sound, sound-unfaulty, unfaulty-sound, start-strict, start-within}
+use Rattle.grammar.proofs.Frame.{Sound, sound-unfaulty, unfaulty-sound, start-strict}
 use Rattle.grammar.proofs.Fits.{fit-snoc}
 use Rattle.grammar.proofs.Trees.{bytes-append, bytes-size, tree-some, tags-size, tags-start-only, tags-only, legal-tree, tree-legal}
 use Rattle.grammar.proofs.WhenReport.{record-0-iff, clean-unfaulty, report-accepted-iff, report-last}
@@ -121,7 +121,7 @@ start-only s i j e =
     ]
 
 -- Two sequences of tags with the same bytes are one.
-pub bytes-only : (ts us : List Tag) → bytesOf ts ≡ bytesOf us → ts ≡ us
+bytes-only : (ts us : List Tag) → bytesOf ts ≡ bytesOf us → ts ≡ us
 bytes-only ts us e =
     let s = bytesOf ts in
     let r = tags-back ts [] s (sym (append-nil s)) in
@@ -162,7 +162,7 @@ module _ (s : List ℕ) (bytes : Bytes s) where
     go (fails m) (fails k) n q = absurd (n refl)
 
   -- Where its first i records are not faulty, a byte string is the bytes of their tags, and then what is left.
-  pub bytes-read : (i : ℕ) → ((j : ℕ) → j < i → Faulty reportLength s (startOf s j) → ⊥)
+  bytes-read : (i : ℕ) → ((j : ℕ) → j < i → Faulty reportLength s (startOf s j) → ⊥)
       → s ≡ bytesOf (tagsBefore s i) ++ drop (startOf s i) s
   unfolding bytesOf startOf tagsBefore
   bytes-read zero h = refl
@@ -173,14 +173,6 @@ module _ (s : List ℕ) (bytes : Bytes s) where
       ∙ ap (λ (b : List ℕ). bytesOf (tagsBefore s i) ++ b) r
       ∙ sym (append-assoc (bytesOf (tagsBefore s i)) (tagBytes (tagAt s at)) (drop (nextOf s at) s))
       ∙ ap (λ (b : List ℕ). b ++ drop (nextOf s at) s) (sym (bytes-snoc (tagsBefore s i) (tagAt s at)))
-
-  -- The bytes of the first i records, where these are not faulty, are those of their tags.
-  pub bytes-taken : (i : ℕ) → ((j : ℕ) → j < i → Faulty reportLength s (startOf s j) → ⊥) → take (startOf s i) s ≡ bytesOf (tagsBefore s i)
-  bytes-taken i h =
-      let e = bytes-read i h in
-      let n : length (bytesOf (tagsBefore s i)) ≡ startOf s i =
-      omega (arith, simp (length-append, length-drop) at (ap length e), start-within s reportLength i h) in
-      ap (take (startOf s i)) e ∙ take-at (bytesOf (tagsBefore s i)) (drop (startOf s i) s) (startOf s i) n
 
 -- ---- records without a fault are tags that fit
 
@@ -194,7 +186,7 @@ module _ (s : List ℕ) where
       (clean-fit i (λ j l. h j (omega arith)), record-0-iff s (startOf s i) _ _ .0 (h i (omega arith)) .1)
 
   -- Where the first i records are not faulty and their tags fit, they get no number.
-  pub fit-clean : (i : ℕ) → Fit 0 0 (tagsBefore s i) → ((j : ℕ) → j < i → Faulty reportLength s (startOf s j) → ⊥)
+  fit-clean : (i : ℕ) → Fit 0 0 (tagsBefore s i) → ((j : ℕ) → j < i → Faulty reportLength s (startOf s j) → ⊥)
       → (j : ℕ) → j < i → reportFault s j ≡ 0
   unfolding reportFault tagsBefore
   fit-clean zero f h j l = absurd (not-suc-le-zero l)
@@ -276,7 +268,7 @@ tags-begin s m (suc n) h =
     (eq-or-lt-of-le h)
 
 -- A tree's bytes begin those of another tree only where both trees are one, and then nothing follows.
-pub tree-begins-only : (t u : Tree) (rest : List ℕ) → bytesOf (tagsT u) ≡ bytesOf (tagsT t) ++ rest → (t ≡ u) × (rest ≡ [])
+tree-begins-only : (t u : Tree) (rest : List ℕ) → bytesOf (tagsT u) ≡ bytesOf (tagsT t) ++ rest → (t ≡ u) × (rest ≡ [])
 tree-begins-only t u rest e =
     let s = bytesOf (tagsT u) in
     let r = tags-back (tagsT t) rest s e in

@@ -67,7 +67,7 @@ module _ (pre rest : List ℕ) (own : ℕ) (e : Entry) (formed : WellFormed own 
   read-length = number-at pre (recordOf e ++ rest) (length pre) 0 (omega arith) ∙ number-back (ruleLength (e .kind)) _
 
   -- The kind read there is the entry's.
-  pub read-kind : kindAt whole (length pre) ≡ e .kind
+  read-kind : kindAt whole (length pre) ≡ e .kind
   unfolding recordOf twoBytes
   read-kind = number-at pre (recordOf e ++ rest) _ 2 refl ∙ number-after (ruleLength (e .kind)) _ 0 ∙ number-back (e .kind) _
 

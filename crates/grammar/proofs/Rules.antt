@@ -19,7 +19,8 @@ use Rattle.records.specs.Kinds.{ruleLength}
 use Rattle.grammar.specs.Bytes.{Bytes}
 use Rattle.grammar.specs.Rules.{noEntry, recordOf, ruleBytes, WellFormed, RuleEntries}
 use Rattle.grammar.specs.When.{bad-a}
-use Rattle.grammar.proofs.Entries.{before-length, before-at, entries-count, entries-few, entries-some, entry-formed}
+use Rattle.grammar.proofs.Entries.{before-at, entries-count, rule-entries}
+use Rattle.records.proofs.TableLaws.{entries-length}
 use Rattle.grammar.proofs.Frame.{sound-unfaulty, unfaulty-sound, start-step, start-far}
 use Rattle.grammar.proofs.RuleRecord.{record-length, read-length, entry-read, record-sound, record-directed, record-back}
 use Rattle.records.proofs.Rows.{row-measured}
@@ -129,17 +130,14 @@ rule-complete es r =
     )
 
 -- An accepted byte string is the concatenation of the records of the entries found in it, which are a rule's.
-pub rule-sound : (s : List ℕ) → Bytes s → (n : ℕ) → ruleAnswer s ≡ Accepted n
+rule-sound : (s : List ℕ) → Bytes s → (n : ℕ) → ruleAnswer s ≡ Accepted n
     → (s ≡ ruleBytes (entriesOf s)) × (RuleEntries (entriesOf s) × (length (entriesOf s) ≡ n))
 unfolding entriesOf
 rule-sound s bytes n e =
     let r = rule-accepted-iff s n .0 e .1 .0 in
     let count : countOf (ruleAnswer s) ≡ n = ap countOf e in (
       rw (count, bytes-before s bytes n (r .clean), r .at-end, take-length),
-      (
-        record { nonempty = omega (arith, entries-count s, entries-some s n e); few = entries-few s; formed = entry-formed s },
-        entries-count s ∙ count,
-      ),
+      (rule-entries s n e, entries-count s ∙ count),
     )
 
 -- A byte string is accepted as a rule of n entries exactly where it is the concatenation of the records of n entries of a rule.
@@ -153,7 +151,7 @@ rule-iff s bytes n = (λ e. (entriesOf s, rule-sound s bytes n e .0, rule-sound 
 pub entries-are : (s : List ℕ) (es : List Entry) → s ≡ ruleBytes es → RuleEntries es → entriesOf s ≡ es
 unfolding entriesOf
 entries-are s es e r =
-    let count = before-length (ruleBytes es) (length es) in
+    let count = entries-length (ruleBytes es) (length es) in
     rw (e, rule-complete es r)
     (ext-getD noEntry (entriesBefore (ruleBytes es) (length es)) es count
     (λ i l. let h : i < length es = omega arith in before-at (ruleBytes es) (length es) i h ∙ entry-is es (r .formed) i h))

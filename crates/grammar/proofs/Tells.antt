@@ -15,7 +15,7 @@ pub data Told (P : Type 0) : Bool → Type 0 where
   fails : (P → ⊥) → Told P false
 
 -- A test whose passing gives the proposition, and whose failing shuts it out, tells it.
-pub told-of : (P : Type 0) (b : Bool) → (b ≡ true → P) → (b ≡ false → P → ⊥) → Told P b
+told-of : (P : Type 0) (b : Bool) → (b ≡ true → P) → (b ≡ false → P → ⊥) → Told P b
 told-of P true f g = holds (f refl)
 told-of P false f g = fails (g refl)
 
@@ -28,6 +28,16 @@ true-iff (fails n) = (λ e. clash e refl, λ q. absurd (n q))
 pub false-iff : {P : Type 0} {b : Bool} → Told P b → (b ≡ false) ↔ (P → ⊥)
 false-iff (holds p) = (λ e. clash refl e, λ n. absurd (n p))
 false-iff (fails n) = (λ e. n, λ m. refl)
+
+-- Where a conjunction passes, both tests pass.
+pub and-true : (a b : Bool) → (a && b) ≡ true → (a ≡ true) × (b ≡ true)
+and-true true b e = (refl, e)
+and-true false b e = clash e refl
+
+-- A conjunction with a test that passes is the other test.
+pub and-one : (a : Bool) → (a && true) ≡ a
+and-one true = refl
+and-one false = refl
 
 -- Tests that tell equivalent propositions are equal.
 pub told-same : {P Q : Type 0} {a b : Bool} → Told P a → Told Q b → P ↔ Q → a ≡ b

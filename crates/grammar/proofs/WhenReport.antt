@@ -48,17 +48,17 @@ module _ (s : List ℕ) (at d e : ℕ) where
   row-6-told = or-told (broken-told reportLength s at) (mislabels-told tag)
 
   -- A record gets number 6 exactly where row 6 applies to it.
-  pub record-6-iff : (recordFault s at d e ≡ 6) ↔ Row6 s at
+  record-6-iff : (recordFault s at d e ≡ 6) ↔ Row6 s at
   record-6-iff = rw record-is (chain-first-iff 6 7 8 numbers-distinct row-6-told (unbalances-told d e tag) (overfills-told d e tag))
 
   -- A record gets number 7 exactly where row 7 applies to it.
-  pub record-7-iff : (recordFault s at d e ≡ 7) ↔ Row7 s at d e
+  record-7-iff : (recordFault s at d e ≡ 7) ↔ Row7 s at d e
   record-7-iff =
       let r = chain-second-iff 6 7 8 numbers-distinct row-6-told (unbalances-told d e tag) (overfills-told d e tag) in
       rw record-is (λ q. let h = r .0 q in record { not-6 = h .0; unbalanced = h .1 }, λ h. r .1 (h .not-6, h .unbalanced))
 
   -- A record gets number 8 exactly where row 8 applies to it.
-  pub record-8-iff : (recordFault s at d e ≡ 8) ↔ Row8 s at d e
+  record-8-iff : (recordFault s at d e ≡ 8) ↔ Row8 s at d e
   record-8-iff =
       let r = chain-third-iff 6 7 8 numbers-distinct row-6-told (unbalances-told d e tag) (overfills-told d e tag) in
       rw record-is (
@@ -72,7 +72,7 @@ module _ (s : List ℕ) (at d e : ℕ) where
   record-0-iff = pick-later 6 _ 0 (broken-told reportLength s at) (omega arith) (λ q. q, λ q. q)
 
   -- A record gets no other number.
-  pub record-numbers : (k : ℕ) → recordFault s at d e ≡ k → (k ≡ 0 → ⊥) → (k ≡ 6) ⊎ ((k ≡ 7) ⊎ (k ≡ 8))
+  record-numbers : (k : ℕ) → recordFault s at d e ≡ k → (k ≡ 0 → ⊥) → (k ≡ 6) ⊎ ((k ≡ 7) ⊎ (k ≡ 8))
   record-numbers k q n = chain-numbers 6 7 8 row6 (unbalances d e tag) (overfills d e tag) k (sym record-is ∙ q) n
 
 -- ---- the report
@@ -102,7 +102,7 @@ module _ (s : List ℕ) where
   answer-is = refl
 
   -- Every answer but number 5's is given exactly where the size is right and it is that of the end or of the first record at fault.
-  pub report-decided-iff : (a : Answer) → (Refused 5 0 ≡ a → ⊥) → (reportAnswer s ≡ a) ↔ (Sized 40960 s × Decided (reportFault s) s ends a)
+  report-decided-iff : (a : Answer) → (Refused 5 0 ≡ a → ⊥) → (reportAnswer s ≡ a) ↔ (Sized 40960 s × Decided (reportFault s) s ends a)
   report-decided-iff a n =
       let r = sized-iff 5 40960 s _ a n in
       rw answer-is (λ e. let h = r .0 e in (h .0, later-iff a .0 (h .1)), λ h. r .1 (h .0, later-iff a .1 (h .1)))
@@ -144,7 +144,7 @@ module _ (s : List ℕ) where
     row-decided (inr h) = by-end (h .1 .0) (h .1 .1) (end-refused-iff _ _ k p .1 (h .0, (h .1 .2, h .1 .3)))
 
     -- A number but 5 and 0 is given exactly where its row applies at the first record with a fault, or at the end where it is 7.
-    pub report-row-iff : (k ≡ 5 → ⊥) → (reportAnswer s ≡ Refused k p) ↔ (Sized 40960 s × (AtFirst s p row ⊎ ((k ≡ 7) × EndsOpen s p)))
+    report-row-iff : (k ≡ 5 → ⊥) → (reportAnswer s ≡ Refused k p) ↔ (Sized 40960 s × (AtFirst s p row ⊎ ((k ≡ 7) × EndsOpen s p)))
     report-row-iff n =
         let d = report-decided-iff (Refused k p) (λ e. n (cc)) in
         (λ e. let h = d .0 e in (h .0, decided-row (h .1)), λ h. d .1 (h .0, row-decided (h .1)))

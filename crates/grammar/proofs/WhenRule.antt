@@ -23,7 +23,7 @@ use Rattle.grammar.specs.When.{Misdirected, bad-label, bad-a, bad-b, Mis
 use Rattle.grammar.proofs.Chain.{Distinct, chain-numbers, chain-first-iff, chain-second-iff, chain-third-iff, chain-none-iff}
 use Rattle.grammar.proofs.Decides.{Decided, by-end, by-fault, answer-iff, unsized-iff, sized-iff, size-cases}
 use Rattle.grammar.proofs.Frame.{broken-told}
-use Rattle.grammar.proofs.Tells.{Told, holds, fails, told-iff, or-told, and-told, ltb-told, leb-told}
+use Rattle.grammar.proofs.Tells.{Told, fails, told-iff, or-told, and-told, ltb-told, leb-told}
 
 -- ---- the fault of one record
 
@@ -52,7 +52,7 @@ module _ (row : Row) (own : ℕ) (e : Entry) where
         back (bad-b l t o) = inr (t, o)
 
   -- The test of row 3 passes exactly where an entry is misdirected.
-  pub misdirected-told : Told (Misdirected row own e) (misdirected (row .numbers) (row .arguments) own e)
+  misdirected-told : Told (Misdirected row own e) (misdirected (row .numbers) (row .arguments) own e)
   misdirected-told = misdirected-told-at (row .numbers) refl
 
 module _ (s : List ℕ) (own at : ℕ) where
@@ -77,17 +77,17 @@ module _ (s : List ℕ) (own at : ℕ) where
   under = (λ n. omega arith, λ l h. omega arith)
 
   -- A record gets 4 exactly where it is the 65th or a later one.
-  pub fault-4-iff : (ruleFault s own at ≡ 4) ↔ (64 ≤ own)
+  fault-4-iff : (ruleFault s own at ≡ 4) ↔ (64 ≤ own)
   unfolding ruleFault
   fault-4-iff = chain-first-iff 4 2 3 distinct (leb-told 64 own) broken-at misdirected-at
 
   -- A record gets 2 exactly where it is one of the first 64 and faulty.
-  pub fault-2-iff : (ruleFault s own at ≡ 2) ↔ ((own < 64) × Faulty ruleLength s at)
+  fault-2-iff : (ruleFault s own at ≡ 2) ↔ ((own < 64) × Faulty ruleLength s at)
   unfolding ruleFault
   fault-2-iff = Iff·trans (chain-second-iff 4 2 3 distinct (leb-told 64 own) broken-at misdirected-at) (Iff·and under Iff·rfl)
 
   -- A record gets 3 exactly where it is one of the first 64, not faulty, and misdirected.
-  pub fault-3-iff : (ruleFault s own at ≡ 3) ↔ ((own < 64) × ((Faulty ruleLength s at → ⊥) × MisdirectedAt s own at))
+  fault-3-iff : (ruleFault s own at ≡ 3) ↔ ((own < 64) × ((Faulty ruleLength s at → ⊥) × MisdirectedAt s own at))
   unfolding ruleFault
   fault-3-iff = Iff·trans (chain-third-iff 4 2 3 distinct (leb-told 64 own) broken-at misdirected-at) (Iff·and under Iff·rfl)
 
@@ -97,7 +97,7 @@ module _ (s : List ℕ) (own at : ℕ) where
   fault-0-iff = Iff·trans (chain-none-iff 4 2 3 distinct (leb-told 64 own) broken-at misdirected-at) (Iff·and under Iff·rfl)
 
   -- A record at fault gets 4, 2 or 3.
-  pub fault-numbers : (k : ℕ) → ruleFault s own at ≡ k → (k ≡ 0 → ⊥) → (k ≡ 4) ⊎ ((k ≡ 2) ⊎ (k ≡ 3))
+  fault-numbers : (k : ℕ) → ruleFault s own at ≡ k → (k ≡ 0 → ⊥) → (k ≡ 4) ⊎ ((k ≡ 2) ⊎ (k ≡ 3))
   unfolding ruleFault
   fault-numbers k e n =
       chain-numbers 4 2 3 (leb 64 own) (broken (frameOf s at (rowOf (kindAt s at) .length)))

@@ -63,10 +63,6 @@ module _ (levels : List ℕ) where
       (last-complete d s t (record { before = l; low = r .low; between = λ k a b. r .between k a (omega arith) })))
       (eq-or-lt-of-le (le-of-suc-le-suc (r .before)))
 
-  -- What lastUpTo finds is the last element before s whose level is at most d.
-  pub last-iff : (d s t : ℕ) → (lastUpTo levels d s ≡ some t) ↔ Last d s t
-  last-iff d s t = (last-sound d s t, last-complete d s t)
-
   last-there-more : {b : Bool} (d s c : ℕ) → Told (getD levels s 0 ≤ d) b → c < suc s → getD levels c 0 ≤ d
       → (c < s → (t : ℕ) × Last d s t) → (t : ℕ) × Last d (suc s) t
   last-there-more d s c (holds l) b m h = (s, last-here d s l)
@@ -166,7 +162,7 @@ some-same none (some t) h = h t .1 refl
 some-same (some t) o′ h = sym (h t .0 refl)
 
 -- Two values are equal where what is true of the one number that they hold is the same.
-pub found-same : {P Q : ℕ → Type 0} (o o′ : Option ℕ) → ((t : ℕ) → (o ≡ some t) ↔ P t) → ((t : ℕ) → (o′ ≡ some t) ↔ Q t)
+found-same : {P Q : ℕ → Type 0} (o o′ : Option ℕ) → ((t : ℕ) → (o ≡ some t) ↔ P t) → ((t : ℕ) → (o′ ≡ some t) ↔ Q t)
     → ((t : ℕ) → P t → Q t) → ((t : ℕ) → Q t → P t) → o ≡ o′
 found-same o o′ p q f g = some-same o o′ (λ t. (λ e. q t .1 (f t (p t .0 e)), λ e. p t .1 (g t (q t .0 e))))
 
@@ -198,13 +194,13 @@ next-kept levels levels′ s q l same c =
 
 module _ (levels levels′ : List ℕ) (s : ℕ) (l : s < length levels) (l′ : s < length levels′) (same : Agree levels levels′ s) where
   -- The parent of s depends on the levels up to s only.
-  pub parent-prefix : parent levels s ≡ parent levels′ s
+  parent-prefix : parent levels s ≡ parent levels′ s
   parent-prefix =
       found-same _ _ (parent-is levels s) (parent-is levels′ s) (λ p. child-kept levels levels′ s p l′ same)
       (λ p. child-kept levels′ levels s p l (λ k m. sym (same k m)))
 
   -- The previous sibling of s depends on the levels up to s only.
-  pub previous-prefix : previous levels s ≡ previous levels′ s
+  previous-prefix : previous levels s ≡ previous levels′ s
   previous-prefix =
       found-same _ _ (previous-is levels s) (previous-is levels′ s) (λ q. next-kept levels levels′ s q l′ same)
       (λ q. next-kept levels′ levels s q l (λ k m. sym (same k m)))

@@ -21,7 +21,7 @@ use Rattle.meaning.specs.Tree.{backward, direction}
 use Rattle.records.specs.declared.kind.Shape.{Shape}
 use Rattle.records.specs.declared.kind.Shape.the-variants.{Nothing as nothing, Here as local, SomeAlong as someAlong, UntilAlong as untilAlong, EveryChild as everyChild}
 use Rattle.records.specs.Kinds.{rowOf, shapeOf, leadsBack, shapeLooksBack}
-use Rattle.meaning.specs.Marks.{at, someOf, untilOf, means, below, mark, wordOf, verdict}
+use Rattle.meaning.specs.Marks.{at, someOf, untilOf, means, below, mark, wordOf}
 use Rattle.meaning.specs.OnePass.{LooksBack}
 use Rattle.meaning.proofs.Links.{Agree, link-prefix}
 use Rattle.meaning.proofs.Tests.{found-down, until-is}
@@ -29,7 +29,7 @@ use Rattle.meaning.proofs.Reflect.{axis-along}
 use Rattle.meaning.proofs.Words.{word-same}
 
 -- Tests that agree at the element that is found pass alike there.
-pub at-same : (o : Option ℕ) (p q : ℕ → Bool) → ((t : ℕ) → o ≡ some t → p t ≡ q t) → at o p ≡ at o q
+at-same : (o : Option ℕ) (p q : ℕ → Bool) → ((t : ℕ) → o ≡ some t → p t ≡ q t) → at o p ≡ at o q
 at-same none p q h = refl
 at-same (some t) p q h = h t refl
 
@@ -101,10 +101,6 @@ module _ (levels levels′ labels labels′ : List ℕ) (s : ℕ) (l : s < lengt
     pub word-local : wordOf entries levels labels s ≡ wordOf entries levels′ labels′ s
     unfolding wordOf
     word-local = word-same (length entries) _ _ (λ i m. mark-local i)
-
-    pub verdict-local : verdict entries levels labels s ≡ verdict entries levels′ labels′ s
-    unfolding verdict
-    verdict-local = rw word-local
 
 -- ---- trees that begin with the same tags
 

@@ -9,7 +9,6 @@ use mathlib.Core.Bool.{Bool}
 use mathlib.Core.List.{List}
 use mathlib.Core.Logic.{⊎-elim}
 use borrow.Author.Tests.{eq-eqb, ne-eqb}
-use lib.Dec.{eqb}
 use lib.ListN.{length, getD}
 use Rattle.records.specs.declared.rule.Entry.{Entry}
 use Rattle.grammar.specs.Rules.{noEntry, RuleEntries}
@@ -26,7 +25,7 @@ module _ (levels labels : List ℕ) (entries : List Entry) where
   meansOver i a b = means levels labels (shapeOf (entry i .kind)) (entry i .a) a b
 
   -- What is known of the entries below k is their marks.
-  pub below-mark : (k i : ℕ) → i < k → below levels labels entries k i ≡ mark levels labels entries i
+  below-mark : (k i : ℕ) → i < k → below levels labels entries k i ≡ mark levels labels entries i
   unfolding mark below
   below-mark zero i l = absurd (not-suc-le-zero l)
   below-mark (suc k) i l =
@@ -40,7 +39,7 @@ module _ (levels labels : List ℕ) (entries : List Entry) where
   mark-below i = rw (eq-eqb i i refl, below)
 
   -- The mark of entry i is what its kind means over the marks of its a and b, where these are below i.
-  pub mark-is : (i : ℕ) → entry i .a < i → entry i .b < i → mark levels labels entries i
+  mark-is : (i : ℕ) → entry i .a < i → entry i .b < i → mark levels labels entries i
       ≡ meansOver i (mark levels labels entries (entry i .a)) (mark levels labels entries (entry i .b))
   mark-is i la lb = rw (mark-below i, below-mark i (entry i .a), below-mark i (entry i .b))
 

@@ -26,11 +26,11 @@ use Rattle.meaning.proofs.Tests.{ToldBelow, Finds, Along, ahead, behind
 use Rattle.meaning.proofs.Words.{wordOf-bit, verdict-is}
 
 -- Parents find the child relation among a report's elements, and previous siblings the next-sibling relation.
-pub parent-finds : (levels : List ℕ) → Finds (Child levels) (parent levels) (length levels)
+parent-finds : (levels : List ℕ) → Finds (Child levels) (parent levels) (length levels)
 parent-finds levels =
     record { is = parent-is levels; down = parent-down levels; inside = λ s t e. parent-is levels s t .0 e .element }
 
-pub previous-finds : (levels : List ℕ) → Finds (Next levels) (previous levels) (length levels)
+previous-finds : (levels : List ℕ) → Finds (Next levels) (previous levels) (length levels)
 previous-finds levels =
     record { is = previous-is levels; down = previous-down levels; inside = λ s t e. previous-is levels s t .0 e .element }
 
@@ -84,7 +84,7 @@ module _ (levels labels : List ℕ) where
         (below-told k i s l)
 
     -- An entry's mark at an element tells whether the entry holds there.
-    pub mark-told : (i s : ℕ) → s < length levels → Told (Holds levels labels entries i s) (mark levels labels entries i s)
+    mark-told : (i s : ℕ) → s < length levels → Told (Holds levels labels entries i s) (mark levels labels entries i s)
     unfolding Holds mark
     mark-told i s l = below-told (suc i) i s l
 

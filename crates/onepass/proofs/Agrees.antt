@@ -14,18 +14,16 @@ use lib.ListN.{length, replicate}
 use Rattle.records.specs.declared.answer.Answer.{Answer}
 use Rattle.records.specs.declared.answer.Answer.the-variants.{Accepted, Refused}
 use Rattle.records.specs.declared.rule.Entry.{Entry}
-use Rattle.records.specs.Answer.{countOf}
 use Rattle.records.specs.Report.{reportAnswer, tagsOf as tagsIn}
 use Rattle.records.specs.Rule.{ruleAnswer}
 use Rattle.records.specs.Tables.{entriesOf, levelsOf, labelsOf}
 use Rattle.records.specs.Tags.{Tag, opens, closes, opened}
 use Rattle.grammar.specs.Bytes.{Bytes}
-use Rattle.grammar.specs.Rules.{RuleEntries}
 use Rattle.grammar.proofs.Elements.{accepted-legal, levels-accepted, labels-accepted}
 use Rattle.grammar.specs.Reports.{bytesOf}
 use Rattle.grammar.proofs.ReportBytes.{accepted-tree, tags-are}
 use Rattle.grammar.proofs.Trees.{bytes-append}
-use Rattle.grammar.proofs.Entries.{entries-count, entries-few, entries-some, entry-formed}
+use Rattle.grammar.proofs.Entries.{entries-few, rule-entries}
 use Rattle.meaning.specs.Marks.{bit, bitAt, wordOf, verdict}
 use Rattle.meaning.specs.OnePass.{fresh, LooksBack, fault, openedVerdict, afterAll, Taken}
 use Rattle.meaning.proofs.Agrees.{verdict-agrees as table-agrees}
@@ -73,7 +71,7 @@ refused-left-out done = done
 refused-left-out (then {c = c} {cs = cs} p more) = left-out-one c cs p (refused-left-out more)
 
 -- A sequence of calls splits at each of them.
-pub calls-split : {rule end : List ℕ} (before : List Call) (c : Call) (later : List Call) (s : List ℕ) → Calls rule s (before ++ (c ∷ later)) end
+calls-split : {rule end : List ℕ} (before : List Call) (c : Call) (later : List Call) (s : List ℕ) → Calls rule s (before ++ (c ∷ later)) end
     → (mid next : List ℕ) × Calls rule s before mid × Promised rule mid (c .tag) (c .answer) next × Calls rule next later end
 calls-split [] c later s (then {next = next} p more) = (s, next, done, p, more)
 calls-split (b ∷ before) c later s (then {next = next} p more) =
@@ -111,15 +109,6 @@ taken-split (b ∷ before) c later e =
     (rw (eq-eqb (b .answer .number) 0 (h .0), r .0), r .1)
 
 -- ---- a rule that looks back only
-
--- The entries of an accepted rule are a rule's.
-pub rule-entries : (rule : List ℕ) (m : ℕ) → ruleAnswer rule ≡ Accepted m → RuleEntries (entriesOf rule)
-rule-entries rule m e =
-    record {
-      nonempty = omega (arith, entries-some rule m e, entries-count rule, ap countOf e);
-      few = entries-few rule;
-      formed = entry-formed rule;
-    }
 
 -- No entry looks ahead exactly where every entry looks back.
 back-ahead : (es : List Entry) → LooksBack es → looksAhead es ≡ false
@@ -186,7 +175,7 @@ module _ (rule : List ℕ) (m : ℕ) (accepted : ruleAnswer rule ≡ Accepted m)
     go false = refl
 
   -- Calls lead on by the tags of those that are answered 0.
-  pub reached-along : (ts : List Tag) {s end : List ℕ} {cs : List Call} → Reached ts s → Calls rule s cs end → Reached (ts ++ takenTags cs) end
+  reached-along : (ts : List Tag) {s end : List ℕ} {cs : List Call} → Reached ts s → Calls rule s cs end → Reached (ts ++ takenTags cs) end
   unfolding taken tagsOf
   reached-along ts h done = rw (append-nil ts) h
   reached-along ts {s = s} h (then {next = next} {c = c} {cs = cs} p more) =
@@ -216,7 +205,7 @@ module _ (rule : List ℕ) (m : ℕ) (accepted : ruleAnswer rule ≡ Accepted m)
       go false e f = absurd (omega (arith, begun, ap (λ (x : StepReply). x .number) e))
 
     -- What start writes is the fresh state.
-    pub started-state : stateOf start ≡ fresh
+    started-state : stateOf start ≡ fresh
     started-state = rw start-zeros (zeros-fresh stateSize)
 
     started-reached : Reached [] start
@@ -230,7 +219,7 @@ module _ (rule : List ℕ) (m : ℕ) (accepted : ruleAnswer rule ≡ Accepted m)
         }
 
     -- Whatever the calls, the state that they lead to passes the test, and is the table's after the tags of those that are answered 0.
-    pub calls-reached : {end : List ℕ} {cs : List Call} → Calls rule start cs end → Reached (takenTags cs) end
+    calls-reached : {end : List ℕ} {cs : List Call} → Calls rule start cs end → Reached (takenTags cs) end
     calls-reached calls = reached-along [] started-reached calls
 
     -- ---- an opening that is accepted
@@ -277,7 +266,7 @@ module _ (rule : List ℕ) (m : ℕ) (accepted : ruleAnswer rule ≡ Accepted m)
     module _ (report : List ℕ) (n : ℕ) (bytes : Bytes report) (taken-report : reportAnswer report ≡ Accepted n)
         (cs : List Call) (end : List ℕ) (calls : Calls rule start cs end) (fed : tagsOf cs ≡ tagsIn report) where
       -- Every call is answered 0.
-      pub report-taken : taken cs ≡ cs
+      report-taken : taken cs ≡ cs
       unfolding afterAll
       report-taken =
           all-taken [] started-reached calls

@@ -33,7 +33,7 @@ before-begins s k (suc j) =
     (r .0 ++ (t ∷ []), ap (tagsBefore s) (add-suc k j) ∙ ap (λ (ts : List Tag). ts ++ (t ∷ [])) (r .1) ∙ append-assoc (tagsBefore s k) (r .0) (t ∷ []))
 
 -- Where the bytes of some tags begin those of others, the tags begin the others.
-pub tags-begin : (us ts : List Tag) (rest : List ℕ) → bytesOf us ++ rest ≡ bytesOf ts → (more : List Tag) × (ts ≡ us ++ more)
+tags-begin : (us ts : List Tag) (rest : List ℕ) → bytesOf us ++ rest ≡ bytesOf ts → (more : List Tag) × (ts ≡ us ++ more)
 tags-begin us ts rest e =
     let s = bytesOf ts in
     let r = tags-back us rest s (sym e) in
@@ -77,7 +77,7 @@ unfolding tagBytes
 closes-bytes = append-bytes (twoBytes 2) _ (two-bytes 2 (omega arith)) (two-bytes 2 (omega arith))
 
 -- The bytes of tags that get no number are bytes.
-pub fit-bytes : (ts : List Tag) (d e : ℕ) → Fit d e ts → Bytes (bytesOf ts)
+fit-bytes : (ts : List Tag) (d e : ℕ) → Fit d e ts → Bytes (bytesOf ts)
 unfolding bytesOf Fit
 fit-bytes [] d e f = λ i. omega arith
 fit-bytes (opens l ∷ ts) d e f =

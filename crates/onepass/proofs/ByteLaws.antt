@@ -1,6 +1,6 @@
 -- Numbers of any width in a byte string: their parts, their bound, and what storing one changes and keeps.
 -- Assumes nothing.
-use Prim.Native.Nat.{ℕ, zero, suc, pred, _+_, _*_, _/_, _%_, _^_, _-_, _≤_, _<_}
+use Prim.Native.Nat.{ℕ, zero, suc, _+_, _*_, _/_, _%_, _^_, _≤_, _<_}
 use native.Mathlib.Nat.{add-zero, zero-add, one-mul, mul-assoc, pow-suc, pow-succ', div-one, div-div-eq-div-mul, div-lt-iff-lt-mul, mod-lt}
 use native.Mathlib.Nat.{div-add-mod'}
 use native.Mathlib.Omega.{arith}
@@ -48,7 +48,7 @@ put-length zero at v s = refl
 put-length (suc k) at v s = put-length k (at + 1) (v / 256) (set s at (v % 256)) ∙ length-set s at (v % 256)
 
 -- Every byte that is not one of the k.
-pub put-other : (k at v : ℕ) (s : List ℕ) (i : ℕ) → (at ≤ i → i < at + k → ⊥) → getD (putAt k at v s) i 0 ≡ getD s i 0
+put-other : (k at v : ℕ) (s : List ℕ) (i : ℕ) → (at ≤ i → i < at + k → ⊥) → getD (putAt k at v s) i 0 ≡ getD s i 0
 unfolding putAt
 put-other zero at v s i n = refl
 put-other (suc k) at v s i n =
@@ -56,7 +56,7 @@ put-other (suc k) at v s i n =
     ∙ getD-set-other s at i (v % 256) 0 (λ e. n (omega arith) (omega arith))
 
 -- A number depends on its own bytes only.
-pub word-same : (j p : ℕ) (s t : List ℕ) → ((i : ℕ) → p ≤ i → i < p + j → getD s i 0 ≡ getD t i 0) → wordAt j s p ≡ wordAt j t p
+word-same : (j p : ℕ) (s t : List ℕ) → ((i : ℕ) → p ≤ i → i < p + j → getD s i 0 ≡ getD t i 0) → wordAt j s p ≡ wordAt j t p
 unfolding wordAt
 word-same zero p s t h = refl
 word-same (suc j) p s t h =

@@ -149,7 +149,7 @@ root-after false r = refl
 
 module _ (es : List Entry) (s : List ℕ) (few : length es ≤ 64) (good : Good s) where
   -- The bytes after an opening that is taken are the opened state.
-  pub opened-state : (l : ℕ) → fault (stateOf s) (opens l) ≡ 0 → stateOf (written es s (opens l)) ≡ opened es (stateOf s) l
+  opened-state : (l : ℕ) → fault (stateOf s) (opens l) ≡ 0 → stateOf (written es s (opens l)) ≡ opened es (stateOf s) l
   unfolding stateOf opened written
   opened-state l z =
       let r = opens-room s l z in
@@ -161,7 +161,7 @@ module _ (es : List Entry) (s : List ℕ) (few : length es ≤ 64) (good : Good 
       (opened-last (depthIn s) (elementsIn s) w s (good .long) (r .0) (r .1))
 
   -- The bytes after a closing that is taken are the closed state.
-  pub closed-state : Bytes s → fault (stateOf s) closes ≡ 0 → stateOf (written es s closes) ≡ closed (stateOf s)
+  closed-state : Bytes s → fault (stateOf s) closes ≡ 0 → stateOf (written es s closes) ≡ closed (stateOf s)
   unfolding stateOf closed written
   closed-state bytes z =
       let d = pred (depthIn s) in

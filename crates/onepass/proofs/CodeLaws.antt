@@ -1,11 +1,10 @@
 -- What the code's branches come to, over plain numbers: each return of start, open and close cites one law. Assumes nothing.
-use Prim.Native.Nat.{ℕ, pred, _-_, _≤_, _<_}
+use Prim.Native.Nat.{ℕ, _-_, _≤_, _<_}
 use native.Mathlib.Omega.{arith}
 use borrow.Author.Tests.{eq-eqb, ne-eqb}
 use mathlib.Core.Path.{_≡_, refl, sym, ap, _∙_}
-use mathlib.Core.Bool.{Bool, true, false, cond}
+use mathlib.Core.Bool.{Bool, true, false}
 use mathlib.Core.List.{List, [], _∷_}
-use lib.Dec.{eqb}
 use lib.ListN.{length, replicate}
 use Rattle.records.specs.declared.answer.Answer.{Answer}
 use Rattle.records.specs.declared.answer.Answer.the-variants.{Accepted, Refused}
@@ -23,8 +22,7 @@ use Rattle.records.proofs.Bounds.{rule-small}
 use Rattle.grammar.proofs.Entries.{entries-count, entries-some}
 use Rattle.meaning.specs.Marks.{bit, bitAt}
 use Rattle.meaning.specs.OnePass.{fault, stepWord, openedWord}
-use Rattle.onepass.specs.Bytes.{wordAt}
-use Rattle.onepass.specs.State.{stateSize, depthIn, elementsIn, presenceIn, openPlace, lastPlace, stateOf, bad}
+use Rattle.onepass.specs.State.{stateSize, depthIn, elementsIn, stateOf, bad}
 use Rattle.onepass.specs.Step.{reply, startAnswer, startAfter, openedBytes, closedBytes, looksAhead, callNumber, answerOf, stateAfter}
 use Rattle.onepass.specs.Step.{Started, Answered}
 use Rattle.onepass.specs.declared.export.StepReply.{StepReply}
@@ -145,7 +143,3 @@ module _ (rule s : List ℕ) (t : Tag) where
   pub refused-call : (k p : ℕ) → ruleAnswer rule ≡ Refused k p → (reply k p 0 ≡ answerOf rule s t) × (s ≡ stateAfter rule s t)
   unfolding answerOf stateAfter
   refused-call k p e = (rw e, rw e)
-
--- A test is not both.
-pub true-false : {A : Type 0} {b : Bool} → b ≡ true → b ≡ false → A
-true-false e f = let z : _≡_ {A = ℕ} 0 1 = cc in absurd (omega arith)

@@ -77,7 +77,7 @@ good-iff s = (λ e. good (false-iff (bad-told s) .0 e), λ g. false-iff (bad-tol
 
 module _ {A : Type 0} where
   -- There is a place for each number below n.
-  pub listed-length : (n : ℕ) (f : ℕ → A) → length (listed n f) ≡ n
+  listed-length : (n : ℕ) (f : ℕ → A) → length (listed n f) ≡ n
   unfolding listed
   listed-length zero f = refl
   listed-length (suc n) f = ap suc (listed-length n (λ i. f (suc i)))
@@ -90,25 +90,25 @@ module _ {A : Type 0} where
   listed-at (suc n) f (suc i) d l = listed-at n (λ j. f (suc j)) i d (le-of-suc-le-suc l)
 
   -- A list is that of some values where it has as many places and each holds its value.
-  pub listed-only : (n : ℕ) (f : ℕ → A) (xs : List A) (d : A) → length xs ≡ n → ((i : ℕ) → i < n → f i ≡ getD xs i d) → listed n f ≡ xs
+  listed-only : (n : ℕ) (f : ℕ → A) (xs : List A) (d : A) → length xs ≡ n → ((i : ℕ) → i < n → f i ≡ getD xs i d) → listed n f ≡ xs
   listed-only n f xs d e h =
       ext-getD d _ xs (listed-length n f ∙ sym e) (λ i l. let m : i < n = omega (arith, listed-length n f) in listed-at n f i d m ∙ h i m)
 
   -- Equal values, equal lists.
-  pub listed-same : (n : ℕ) (f g : ℕ → A) → ((i : ℕ) → i < n → f i ≡ g i) → listed n f ≡ listed n g
+  listed-same : (n : ℕ) (f g : ℕ → A) → ((i : ℕ) → i < n → f i ≡ g i) → listed n f ≡ listed n g
   unfolding listed
   listed-same zero f g h = refl
   listed-same (suc n) f g h =
       rw (h 0 (omega arith), listed-same n (λ i. f (suc i)) (λ i. g (suc i)) (λ i l. h (suc i) (omega arith)))
 
   -- One value all along.
-  pub listed-all : (n : ℕ) (f : ℕ → A) (v : A) → ((i : ℕ) → f i ≡ v) → listed n f ≡ replicate n v
+  listed-all : (n : ℕ) (f : ℕ → A) (v : A) → ((i : ℕ) → f i ≡ v) → listed n f ≡ replicate n v
   unfolding listed
   listed-all zero f v h = refl
   listed-all (suc n) f v h = rw (h 0, listed-all n (λ i. f (suc i)) v (λ i. h (suc i)))
 
   -- One value changed.
-  pub listed-set : (n : ℕ) (f g : ℕ → A) (k : ℕ) (v : A) → k < n → g k ≡ v → ((i : ℕ) → i < n → (i ≡ k → ⊥) → g i ≡ f i)
+  listed-set : (n : ℕ) (f g : ℕ → A) (k : ℕ) (v : A) → k < n → g k ≡ v → ((i : ℕ) → i < n → (i ≡ k → ⊥) → g i ≡ f i)
       → listed n g ≡ set (listed n f) k v
   listed-set n f g k v l e h =
       listed-only n g (set (listed n f) k v) v (length-set (listed n f) k v ∙ listed-length n f) (λ i m. at i m (ℕ-discrete i k))
@@ -118,7 +118,7 @@ module _ {A : Type 0} where
       at i m (no q) = h i m q ∙ sym (getD-set-other (listed n f) k i v v q ∙ listed-at n f i v m)
 
 -- The bits of a word with one bit put to a value.
-pub with-bit-listed : (i w : ℕ) (on : Bool) → i < 64 → listed 64 (bitAt (withBit i on w)) ≡ set (listed 64 (bitAt w)) i on
+with-bit-listed : (i w : ℕ) (on : Bool) → i < 64 → listed 64 (bitAt (withBit i on w)) ≡ set (listed 64 (bitAt w)) i on
 with-bit-listed i w on l =
     listed-set 64 (bitAt w) (bitAt (withBit i on w)) i on l (with-bit-at i w on i l ∙ rw (eq-eqb i i refl))
     (λ j m n. with-bit-at i w on j m ∙ rw (ne-eqb j i n))

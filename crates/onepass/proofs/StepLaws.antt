@@ -1,18 +1,17 @@
 -- The step table entry by entry, over the columns. Assumes nothing.
-use Prim.Native.Nat.{ℕ, zero, suc, _+_, _*_, _^_, _≤_, _<_}
-use native.Mathlib.Nat.{one-mul, zero-mul, pow-suc}
-use native.Mathlib.Numerals.{add-one}
+use Prim.Native.Nat.{ℕ, zero, suc, _^_, _<_}
+use native.Mathlib.Nat.{pow-suc}
 use native.Mathlib.Omega.{arith}
-use mathlib.Core.Path.{_≡_, refl, sym}
+use mathlib.Core.Path.{_≡_, refl}
 use mathlib.Core.Bool.{Bool, true, false, not, _||_}
 use mathlib.Core.List.{List, [], _∷_, _++_}
 use lib.ListN.{getD}
 use Rattle.records.specs.declared.rule.Entry.{Entry}
 use Rattle.records.specs.Kinds.{looksBack}
 use Rattle.grammar.specs.Rules.{noEntry}
-use Rattle.meaning.specs.Marks.{bit}
 use Rattle.records.specs.Kinds.{shapeOf}
 use Rattle.meaning.specs.OnePass.{stepBit, stepWord}
+use Rattle.meaning.proofs.Words.{bit-le}
 use Rattle.onepass.specs.Step.{looksAhead}
 
 -- ---- an entry that looks ahead
@@ -32,10 +31,6 @@ ahead-more (d ∷ es) e = rw (ahead-more es e) (grouped (not (looksBack (d .kind
     grouped false b c = refl
 
 -- ---- the word
-
-bit-le : (c : Bool) (p : ℕ) → bit c * p ≤ p
-bit-le true p = omega (arith, one-mul p)
-bit-le false p = omega (arith, zero-mul p)
 
 -- The word of m entries has m bits.
 pub step-small : (es : List Entry) (label p q m : ℕ) → stepWord es label p q m < 2 ^ m

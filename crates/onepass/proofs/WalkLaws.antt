@@ -1,12 +1,11 @@
 -- The step table along a walk: one entry more behind the others. Assumes nothing.
-use Prim.Native.Nat.{ℕ, zero, suc, _+_, _*_, _^_, _≤_, _<_}
+use Prim.Native.Nat.{ℕ, zero, suc, _+_, _*_, _^_, _≤_}
 use native.Mathlib.Numerals.{add-one}
 use native.Mathlib.Omega.{arith}
 use mathlib.Core.Path.{_≡_, refl, sym, ap, _∙_}
-use mathlib.Core.Bool.{Bool, false, not, _||_}
+use mathlib.Core.Bool.{Bool, not, _||_}
 use mathlib.Core.List.{List, [], _∷_, _++_}
 use lib.ListN.{length, getD, List·getD-append}
-use lib.Seq.{getD-append-add}
 use Rattle.records.specs.declared.answer.Answer.the-variants.{Refused}
 use Rattle.records.specs.declared.rule.Entry.{Entry}
 use Rattle.records.specs.Kinds.{shapeLooksBack}
@@ -25,7 +24,7 @@ use Rattle.onepass.specs.Walk.{Walked, unreadWalk, Asked, unaskedAhead}
 use Rattle.onepass.proofs.StepLaws.{ahead-more}
 
 -- Entries behind the first m play no part in their word.
-pub step-prefix : (es fs : List Entry) (label p q m : ℕ) → m ≤ length es → stepWord (es ++ fs) label p q m ≡ stepWord es label p q m
+step-prefix : (es fs : List Entry) (label p q m : ℕ) → m ≤ length es → stepWord (es ++ fs) label p q m ≡ stepWord es label p q m
 unfolding stepWord
 step-prefix es fs label p q zero l = refl
 step-prefix es fs label p q (suc m) l = rw (stepWord, List·getD-append es fs noEntry m (omega arith), step-prefix es fs label p q m (omega arith))

@@ -3,7 +3,6 @@ ghost use mathlib.Core.Path.{_≡_};
 ghost use Prim.Native.Nat.{_≤_};
 ghost use lib.ListN.{length, replicate};
 ghost use Rattle.records.specs.Tags.{opens, closes};
-ghost use Rattle.onepass.specs.State.{stateSize};
 ghost use mathlib.Core.List.{List};
 ghost use Rattle.records.specs.declared.rule.Entry.{Entry};
 ghost use Rattle.onepass.specs.Walk.{WordsRead, OpenStep};

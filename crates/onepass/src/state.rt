@@ -5,7 +5,7 @@ ghost use Prim.Native.Nat.{pred, _<_, _≤_};
 ghost use lib.Dec.{eqb};
 ghost use lib.ListN.{length};
 ghost use Rattle.meaning.specs.Marks.{bitAt};
-ghost use Rattle.onepass.specs.Bytes.{wordAt, putAt, withBit};
+ghost use Rattle.onepass.specs.Bytes.{wordAt};
 ghost use Rattle.onepass.specs.State.{stateSize, presenceIn, openPlace, lastPlace, bad};
 ghost use Rattle.onepass.specs.Step.{cleared, openedBytes, marked, rooted, closedBytes};
 ghost use Rattle.records.specs.Limits.{elementsMost, levelsMost};

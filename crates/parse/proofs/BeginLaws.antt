@@ -38,7 +38,7 @@ or-words true K (b ∷ s) = refl
 or-words false K [] = refl
 or-words false K (b ∷ s) = refl
 
-pub or-law : (w : Bool) (s : List ℕ) (at : ℕ) (r : Word) → WordAt (gap w ++ orWord) s at r → OrAt w s at r
+or-law : (w : Bool) (s : List ℕ) (at : ℕ) (r : Word) → WordAt (gap w ++ orWord) s at r → OrAt w s at r
 unfolding ascii
 or-law true s at (At e) (a, b, q) = (omega arith, b, q)
 or-law false s at (At e) (a, b, q) = (omega arith, b, q)
@@ -121,7 +121,7 @@ test-lettered [] K h1 h2 = refl
 test-lettered (b ∷ l) K h1 h2 = rw (ne-eqb b 40 h1, ne-eqb b 60 h2)
 
 module _ (s : List ℕ) (at : ℕ) where
-  pub begins-plain : (r : Begin) → (headOf (drop at s) ≡ 40 → ⊥) → (headOf (drop at s) ≡ 60 → ⊥) → LettersAt s at r → BeginsAt false s at r
+  begins-plain : (r : Begin) → (headOf (drop at s) ≡ 40 → ⊥) → (headOf (drop at s) ≡ 60 → ⊥) → LettersAt s at r → BeginsAt false s at r
   begins-plain (B.Leaf e n) h1 h2 (l, m, t) =
       record { on = l; within = m; goes = λ K. test-lettered (drop at s) K h1 h2 ∙ t .goes K; good = t .good; reads = t .is false }
   begins-plain (B.Not e) h1 h2 (l, m, q, k) = (l, m, q, λ K. test-lettered (drop at s) K h1 h2 ∙ k K)
@@ -132,7 +132,7 @@ module _ (s : List ℕ) (at : ℕ) where
   spaced : headOf (drop at s) ≡ 32 → (K : List Expected) → run true (test ∷ K) (drop at s) ≡ run false (lettered ∷ K) (drop (at + 1) s)
   spaced h K = let q = front s at 32 h (omega arith) .1 in rw q (test-space true K (drop (at + 1) s))
 
-  pub begins-spaced : (r : Begin) → headOf (drop at s) ≡ 32 → LettersAt s (at + 1) r → BeginsAt true s at r
+  begins-spaced : (r : Begin) → headOf (drop at s) ≡ 32 → LettersAt s (at + 1) r → BeginsAt true s at r
   begins-spaced (B.Leaf e n) h (l, m, t) =
       record {
         on = omega arith;
@@ -147,7 +147,7 @@ module _ (s : List ℕ) (at : ℕ) where
   begins-spaced B.Path h x = absurd x
   begins-spaced (B.Nothing p) h (m, k) = (m, λ K. spaced h K ∙ k K)
 
-  pub begins-none : at ≤ length s → (headOf (drop at s) ≡ 40 → ⊥) → (headOf (drop at s) ≡ 60 → ⊥) → (headOf (drop at s) ≡ 32 → ⊥) → BeginsAt true s at (B.Nothing at)
+  begins-none : at ≤ length s → (headOf (drop at s) ≡ 40 → ⊥) → (headOf (drop at s) ≡ 60 → ⊥) → (headOf (drop at s) ≡ 32 → ⊥) → BeginsAt true s at (B.Nothing at)
   unfolding headOf run next choices pick ended
   begins-none m h1 h2 h3 = (m, go (drop at s) h1 h2 h3) where
     go : (l : List ℕ) → (headOf l ≡ 40 → ⊥) → (headOf l ≡ 60 → ⊥) → (headOf l ≡ 32 → ⊥) → Stops true test l l
@@ -228,7 +228,7 @@ until-form right = refl
 until-form left = refl
 
 module _ (s : List ℕ) (at : ℕ) (h1 : headOf (drop at s) ≡ 63 → ⊥) (h2 : headOf (drop at s) ≡ 40 → ⊥) where
-  pub plain-missing : (p : ℕ) → AxisAt s at (N.None p) → StartAt s at (S.Stray p)
+  plain-missing : (p : ℕ) → AxisAt s at (N.None p) → StartAt s at (S.Stray p)
   plain-missing p (m, k) = (m, λ K. path-axis (drop at s) K h1 h2 ∙ k (afterAxis ∷ K))
 
   goes-along : (a : Axis) (e : ℕ) → drop at s ≡ axisWord a ++ drop e s → (K : List Expected) → run false (path ∷ K) (drop at s) ≡ run true (afterAxis ∷ K) (drop e s)
@@ -282,7 +282,7 @@ module _ (s : List ℕ) (at : ℕ) (h : headOf (drop at s) ≡ 40) where
   asked : (e : ℕ) → headOf (drop e s) ≡ 63 → (K : List Expected) → run true (byte 63 ∷ K) (drop e s) ≡ run false K (drop (e + 1) s)
   asked e g K = let r = front s e 63 g (omega arith) .1 in rw r (question-goes (drop (e + 1) s) K)
 
-  pub while-missing : (p : ℕ) → AxisAt s (at + 1) (N.None p) → StartAt s at (S.Stray p)
+  while-missing : (p : ℕ) → AxisAt s (at + 1) (N.None p) → StartAt s at (S.Stray p)
   while-missing p (m, k) = (m, λ K. opened K ∙ k _)
 
   pub while-stray : (e k : ℕ) → AxisAt s (at + 1) (N.Axis e k) → (headOf (drop e s) ≡ 63 → ⊥) → StartAt s at (S.Stray e)

@@ -19,7 +19,7 @@ use Rattle.parse.proofs.PartLaws.{entries-few}
 
 module _ (rows after : List ℕ) where
   -- The rows up to n are as they were.
-  abbrev pub Same : ℕ → Type 0
+  abbrev Same : ℕ → Type 0
   Same n = (i : ℕ) → i < 3 * n → getD after i 0 ≡ getD rows i 0
 
   fewer : (a n : ℕ) → a ≤ n → Same n → Same a
@@ -37,7 +37,7 @@ module _ (rows after : List ℕ) where
     unfolding HeldT
 
     -- A tree stays held where its rows stay.
-    pub kept : (t : Test) (n : ℕ) → Same n → HeldT rows t n → HeldT after t n
+    kept : (t : Test) (n : ℕ) → Same n → HeldT rows t n → HeldT after t n
     kept everywhere n h r = row-kept n _ _ _ h r
     kept (labelled l) n h r = row-kept n _ _ _ h r
     kept (except t) n h (a, l, r, x) = (a, l, row-kept n _ _ _ h r, kept t a (below a n l h) x)
@@ -179,7 +179,7 @@ mutual
   unfolding noteT HeldT weightT testEntries
 
   -- A noted test is held in the row of its last entry.
-  pub held : (t : Test) (k n : ℕ) (rows : List ℕ) → n ≡ k + entriesT t → n ≤ 64 → length rows ≡ 192 → HeldT (noteT t k rows) t n
+  held : (t : Test) (k n : ℕ) (rows : List ℕ) → n ≡ k + entriesT t → n ≤ 64 → length rows ≡ 192 → HeldT (noteT t k rows) t n
   held everywhere k n rows q m e = rw q (row-there rows (k + 1) 1 0 0 (omega arith) (omega arith) e)
   held (labelled l) k n rows q m e = rw q (row-there rows (k + 1) 2 l 0 (omega arith) (omega arith) e)
   held (except t) k n rows q m e =

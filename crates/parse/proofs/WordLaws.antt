@@ -10,6 +10,7 @@ use borrow.Author.Tests.{ne-eqb, eq-eqb, eqb-true, leb-true, le-leb}
 use lib.Dec.{eqb, leb}
 use lib.ListN.{length, getD, drop, drop-of-length-le}
 use lib.Seq.{drop-cons, drop-drop}
+use Rattle.grammar.proofs.Tells.{and-true}
 use Rattle.text.specs.Decimal.{digit}
 use Rattle.text.proofs.DecimalLaws.{decimal-one}
 use Rattle.paths.proofs.Machine.{number, run, next, ended, isDigit}
@@ -22,7 +23,7 @@ use Rattle.parse.specs.Promises.{headOf, digitFrom, WordAt, NumberAt}
 -- ---- the byte at a cursor
 
 module _ (s : List ℕ) (at : ℕ) where
-  pub cursor : at < length s → drop at s ≡ getD s at 0 ∷ drop (at + 1) s
+  cursor : at < length s → drop at s ≡ getD s at 0 ∷ drop (at + 1) s
   cursor l = rw (add-one at) (drop-cons s at 0 l)
 
   pub head-in : at < length s → getD s at 0 ≡ headOf (drop at s)
@@ -48,14 +49,14 @@ agree-nil [] = refl
 agree-nil (c ∷ x) = refl
 
 module _ (x s : List ℕ) (at i : ℕ) where
-  pub agree-out : length s ≤ at + i → agree (drop i x) (drop (at + i) s) ≡ 0
+  agree-out : length s ≤ at + i → agree (drop i x) (drop (at + i) s) ≡ 0
   agree-out l = rw (drop-of-length-le s l) (agree-nil (drop i x))
 
-  pub agree-over : length x ≤ i → agree (drop i x) (drop (at + i) s) ≡ 0
+  agree-over : length x ≤ i → agree (drop i x) (drop (at + i) s) ≡ 0
   unfolding agree
   agree-over l = rw (drop-of-length-le x l)
 
-  pub agree-step : i < length x → at + i < length s
+  agree-step : i < length x → at + i < length s
       → agree (drop i x) (drop (at + i) s) ≡ cond (eqb (getD s (at + i) 0) (getD x i 0)) (suc (agree (drop (i + 1) x) (drop (at + i + 1) s))) 0
   unfolding agree
   agree-step l m = rw (cursor x i l, cursor s (at + i) m)
@@ -101,10 +102,6 @@ module _ (x s : List ℕ) (at k : ℕ) where
 pub digit-law : (low b : ℕ) (l : List ℕ) → b ≡ headOf l → (leb low b && leb b 57) ≡ digitFrom low l
 unfolding digitFrom
 digit-law low b l e = rw e
-
-and-true : (a b : Bool) → (a && b) ≡ true → (a ≡ true) × (b ≡ true)
-and-true true b e = (refl, e)
-and-true false b e = let z : _≡_ {A = ℕ} 0 1 = cc in absurd (omega arith)
 
 no-digit : (l : List ℕ) → digitFrom 48 l ≡ false → NoDigit l
 unfolding digitFrom headOf NoDigit isDigit

@@ -3,7 +3,7 @@
 // entries before the part. Counts have 16 bits, so that the deepest text needs little stack.
 ghost use mathlib.Core.Path.{_≡_};
 ghost use mathlib.Core.Bool.{Bool, true, false};
-ghost use Prim.Native.Nat.{ℕ, _+_, _*_, _-_, _<_, _≤_};
+ghost use Prim.Native.Nat.{_+_, _*_, _-_, _<_, _≤_};
 ghost use lib.ListN.{length, drop};
 ghost use Rattle.parse.specs.declared.tree.Parsed.the-variants.{Done};
 ghost use Rattle.parse.specs.Rows.{noteRow, formEntries, formBytes, leafTree, noteT};

@@ -69,7 +69,7 @@ module _ (K : List Expected) where
   third-digit d s l = rw (digit-is d l, digit-word d l)
 
   -- A number in 1..999 in front of what is no digit.
-  pub run-number : (n : ℕ) (s : List ℕ) → NoDigit s → 1 ≤ n → n ≤ 999 → run false (number ∷ K) (decimal n ++ s) ≡ run true K s
+  run-number : (n : ℕ) (s : List ℕ) → NoDigit s → 1 ≤ n → n ≤ 999 → run false (number ∷ K) (decimal n ++ s) ≡ run true K s
   run-number n s h m l =
       elim (decLt n 10) [
         | yes a ↦ rw (decimal-one n a) (first-digit n s m a ∙ two-over s h)
@@ -137,7 +137,7 @@ mutual
   unfolding piecesT wordyT ahead GoodT NoDigit run next pick choices isWord isDigit signByte
 
   -- A test in front of pieces and bytes, where no digit follows a number.
-  pub run-test : (t : Test) (w : Bool) (K : List Expected) (ps : List Piece) (r : List ℕ) → GoodT t → NoDigit (ahead true ps r)
+  run-test : (t : Test) (w : Bool) (K : List Expected) (ps : List Piece) (r : List ℕ) → GoodT t → NoDigit (ahead true ps r)
       → run w (test ∷ K) (ahead w (piecesT t ps) r) ≡ run (wordyT t) K (ahead (wordyT t) ps r)
   run-test everywhere w K ps r g h = run-true K w (ahead true ps r)
   run-test (labelled n) w K ps r g h = run-label K w (decimal n ++ ahead true ps r) ∙ run-number K n (ahead true ps r) h (g .0) (g .1)
@@ -148,7 +148,7 @@ mutual
       ∙ run-test u true (byte 41 ∷ K) (sign closing ∷ ps) r (g .1) refl
   run-test (begins p) w K ps r g h = run-path p K ps r g
 
-  pub run-path : (p : Path) (K : List Expected) (ps : List Piece) (r : List ℕ) → GoodP p
+  run-path : (p : Path) (K : List Expected) (ps : List Piece) (r : List ℕ) → GoodP p
       → run false (path ∷ K) (ahead false (piecesP p (sign greater ∷ ps)) r) ≡ run false K (ahead false ps r)
   run-path (only st) K ps r g = run-step st K greater ps r (λ e. let z : _≡_ {A = ℕ} 0 1 = cc in omega arith) g
   run-path (_then_ st p) K ps r g =

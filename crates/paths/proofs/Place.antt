@@ -20,7 +20,7 @@ use Rattle.paths.proofs.Sound.{whole-text}
 -- ---- every stack can be met
 
 -- Bytes that meet a stack.
-unfoldable pub finish : (after : Bool) → List Expected → List ℕ
+unfoldable finish : (after : Bool) → List Expected → List ℕ
 finish w [] = []
 finish w (byte c ∷ K) = c ∷ finish (isWord c) K
 finish w (test ∷ K) = 60 ∷ 99 ∷ 104 ∷ 105 ∷ 108 ∷ 100 ∷ 62 ∷ finish false K

@@ -12,6 +12,7 @@ use Rattle.text.specs.Decimal.{digit, decimal}
 use Rattle.text.proofs.DecimalLaws.{decimal-one, decimal-more}
 use Rattle.records.specs.declared.kind.Axis.{Axis}
 use Rattle.records.specs.declared.kind.Axis.the-variants.{Child as child, Parent as parent, Next as right, Previous as left}
+use Rattle.grammar.proofs.Tells.{and-true}
 use Rattle.paths.specs.Syntax.{Test, everywhere, labelled, except, either, begins, Path, only, _then_, Step, along, along*, passing, while, GoodT, GoodP, GoodS}
 use Rattle.paths.specs.Spelling.{closing, greater, slash, star, word, sign, axisWord, orWord, piecesT, piecesP, piecesS, signByte, gap, textOf, Text}
 use Rattle.paths.proofs.Machine.{Expected, byte, test, lettered, alternative, number, twoDigits, oneDigit, path, axis, afterAxis, afterStep, isDigit, isWord, Choice, letters, axes, goingOn, choices, pick, next, ended, whole, stopped, onward, run}
@@ -28,7 +29,7 @@ Way p s r = GoodP p × (s ≡ ahead false (piecesP p (sign greater ∷ [])) r)
 
 -- The bytes s are what the stack expects, where a word stands just before them or not. Behind digits: for every number that leaves
 -- room for them. Behind an axis or a step: for every one.
-unfoldable pub Fits : List Expected → (after : Bool) → List ℕ → Type 0
+unfoldable Fits : List Expected → (after : Bool) → List ℕ → Type 0
 Fits [] w s = s ≡ []
 Fits (byte c ∷ K) w s = (r : List ℕ) × (s ≡ c ∷ r) × Fits K (isWord c) r
 Fits (test ∷ K) w s = (t : Test) × (r : List ℕ) × GoodT t × (s ≡ ahead w (piecesT t []) r) × Fits K (wordyT t) r
@@ -167,10 +168,6 @@ test-back w K = (
 
 -- ---- digits
 
-and-true : (a b : Bool) → (a && b) ≡ true → (a ≡ true) × (b ≡ true)
-and-true true b e = (refl, e)
-and-true false b e = let z : _≡_ {A = ℕ} 0 1 = cc in absurd (omega arith)
-
 -- A byte that passes for a digit is the digit of a number below ten.
 digit-of : (b : ℕ) → isDigit b ≡ true → (d : ℕ) × (d < 10) × (b ≡ digit d)
 unfolding isDigit
@@ -187,7 +184,7 @@ decimal-behind v d s l m =
     let r : (10 * v + d) % 10 ≡ d = omega arith in
     rw (decimal-more (10 * v + d) (omega arith), q, r, append-assoc (decimal v) (digit d ∷ []) s)
 
-pub digit-behind : (b v : ℕ) (s : List ℕ) → isDigit b ≡ true → 1 ≤ v
+digit-behind : (b v : ℕ) (s : List ℕ) → isDigit b ≡ true → 1 ≤ v
     → (m : ℕ) × (10 * v ≤ m) × (m ≤ 10 * v + 9) × (decimal v ++ (b ∷ s) ≡ decimal m ++ s)
 digit-behind b v s e l =
     let (d, i, q) = digit-of b e in
@@ -228,7 +225,7 @@ fits-end : (w : Bool) → Fits [] w []
 unfolding Fits
 fits-end w = refl
 
-pub digit-word : (b : ℕ) → isDigit b ≡ true → isWord b ≡ true
+digit-word : (b : ℕ) → isDigit b ≡ true → isWord b ≡ true
 unfolding isWord
 digit-word b e = rw e
 
@@ -279,7 +276,7 @@ ended-fits (afterAxis ∷ K) w e = let z : _≡_ {A = ℕ} 0 1 = cc in absurd (o
 ended-fits (afterStep ∷ K) w e = let z : _≡_ {A = ℕ} 0 1 = cc in absurd (omega arith)
 
 -- What is read whole fits.
-pub run-fits : (s : List ℕ) (w : Bool) (K : List Expected) → run w K s ≡ whole → Fits K w s
+run-fits : (s : List ℕ) (w : Bool) (K : List Expected) → run w K s ≡ whole → Fits K w s
 unfolding run
 run-fits [] w K e = go (ended K) refl e where
   go : (t : Bool) → ended K ≡ t → cond t whole (stopped []) ≡ whole → Fits K w []

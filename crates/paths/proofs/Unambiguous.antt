@@ -13,6 +13,7 @@ use Rattle.meaning.specs.Cases.{same}
 use Rattle.text.specs.Text.{ascii}
 use Rattle.text.specs.Decimal.{decimal, valueOf}
 use Rattle.text.proofs.DecimalLaws.{Every, Digit, decimal-back, decimal-digits, decimal-some}
+use Rattle.text.proofs.TextLaws.{every-weaken}
 use Rattle.records.specs.declared.kind.Axis.{Axis}
 use Rattle.records.specs.declared.kind.Axis.the-variants.{Child as child, Parent as parent, Next as right, Previous as left}
 use Rattle.paths.specs.Syntax.{Test, everywhere, labelled, except, either, begins, Path, only, _then_, Step, along, along*, passing, while}
@@ -21,7 +22,7 @@ use Rattle.paths.proofs.Machine.{isDigit, isWord}
 
 -- ---- pieces in bytes
 
-abbrev pub WordByte : ℕ → Type 0
+abbrev WordByte : ℕ → Type 0
 WordByte b = isWord b ≡ true
 
 -- The bytes begin with no letter and no digit.
@@ -30,7 +31,7 @@ Ends [] = Unit {0}
 Ends (b ∷ s) = isWord b ≡ false
 
 -- The words have bytes, all letters and digits.
-unfoldable pub Fine : List Piece → Type 0
+unfoldable Fine : List Piece → Type 0
 Fine [] = Unit {0}
 Fine (word x ∷ ps) = (1 ≤ length x) × Every WordByte x × Fine ps
 Fine (sign c ∷ ps) = Fine ps
@@ -105,7 +106,7 @@ gap-off true x y e = cc
 gap-off false x y e = e
 
 -- Two lists of pieces with the same bytes are equal.
-pub spell-only : (ps qs : List Piece) (w : Bool) → Fine ps → Fine qs → spell w ps ≡ spell w qs → ps ≡ qs
+spell-only : (ps qs : List Piece) (w : Bool) → Fine ps → Fine qs → spell w ps ≡ spell w qs → ps ≡ qs
 unfolding spell Fine
 spell-only [] [] w f g e = refl
 spell-only [] (word y ∷ qs) w f g e = absurd (omega (arith, simp length-append at (ap length e)))
@@ -128,11 +129,6 @@ digit-word : (b : ℕ) → Digit b → WordByte b
 unfolding isWord isDigit
 digit-word b d = rw (le-leb 48 b (d .0), le-leb b 57 (d .1))
 
-every-map : {P Q : ℕ → Type 0} → ((b : ℕ) → P b → Q b) → (s : List ℕ) → Every P s → Every Q s
-unfolding Every
-every-map f [] h = tt
-every-map f (b ∷ s) h = (f b (h .0), every-map f s (h .1))
-
 axis-fine : (a : Axis) → (1 ≤ length (axisWord a)) × Every WordByte (axisWord a)
 unfolding axisWord Every isWord isDigit ascii
 axis-fine child = (omega arith, (refl, (refl, (refl, (refl, (refl, tt))))))
@@ -148,7 +144,7 @@ mutual
   fine-test (labelled n) ps f = (
     omega arith,
     (refl, (refl, (refl, (refl, (refl, tt))))),
-    (decimal-some n, every-map digit-word (decimal n) (decimal-digits n), f),
+    (decimal-some n, every-weaken Digit WordByte digit-word (decimal n) (decimal-digits n), f),
   )
   fine-test (except t) ps f = (omega arith, (refl, (refl, (refl, tt))), fine-test t ps f)
   fine-test (either t u) ps f = fine-test t _ (omega arith, (refl, (refl, tt)), fine-test u (sign closing ∷ ps) f)
@@ -283,7 +279,7 @@ module _ {A : Type 0} where
         read-axis a _ _ ∙ read-test t n (omega arith) (sign closing ∷ sign star ∷ sign c ∷ ps) _
 
 -- Two trees with the same pieces are equal.
-pub pieces-only : (t u : Test) → piecesT t [] ≡ piecesT u [] → t ≡ u
+pieces-only : (t u : Test) → piecesT t [] ≡ piecesT u [] → t ≡ u
 pieces-only t u e =
     let n = sizeT t + sizeT u in
     let x = read-test t n (omega arith) [] (λ v ps. some v) in

@@ -6,9 +6,9 @@ use native.Mathlib.Omega.{arith}
 use mathlib.Core.Path.{_≡_, refl, sym, ap, _∙_}
 use mathlib.Core.Bool.{Bool, true, false, cond, not, _||_}
 use mathlib.Core.Logic.{_⊎_, inl, inr, ⊎-elim}
-use borrow.Author.Tests.{eq-eqb, ne-eqb, eqb-true, eqb-false}
+use borrow.Author.Tests.{eqb-true, eqb-false}
 use lib.Dec.{eqb}
-use Rattle.tally.specs.Tally.{refused, risen, truthOf, Tallied}
+use Rattle.tally.specs.Tally.{refused, risen, Tallied}
 use Rattle.tally.specs.declared.Tally.{Tally}
 use Rattle.tally.specs.declared.Counted.{Counted}
 
@@ -37,7 +37,7 @@ refused-not t = go (eqb (t .seen) 4294967295) (eqb (t .seen) (t .selected + t .�
     go false true p q z = (eqb-false _ _ p, eqb-true _ _ q)
 
 -- A tally that is refused is full or out of balance.
-pub refused-is : (t : Tally) → refused t ≡ true → Full t ⊎ (Balanced t → ⊥)
+refused-is : (t : Tally) → refused t ≡ true → Full t ⊎ (Balanced t → ⊥)
 unfolding refused
 refused-is t = go (eqb (t .seen) 4294967295) (eqb (t .seen) (t .selected + t .«passed_over»)) refl refl
   where

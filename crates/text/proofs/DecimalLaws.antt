@@ -3,15 +3,14 @@
 -- Assumes nothing.
 use Prim.Native.Nat.{ℕ, zero, suc, _+_, _*_, _-_, _/_, _%_, _^_, _≤_, _<_}
 use native.Mathlib.Omega.{arith}
-use native.Mathlib.Numerals.{add-one}
 use native.Mathlib.Nat.{div-lt-iff-lt-mul, pow-suc}
 use native.Mathlib.Decide.{decLt}
-use borrow.Author.Tests.{lt-ltb, le-ltb, ltb-true, ltb-false}
+use borrow.Author.Tests.{lt-ltb, le-ltb, ltb-false}
 use mathlib.Core.Path.{_≡_, refl, sym, ap, _∙_}
 use mathlib.Core.Bool.{Bool, true, false, cond}
 use mathlib.Core.List.{List, [], _∷_, _++_}
 use lib.Dec.{ltb}
-use lib.ListN.{length, getD, length-append, List·getD-append}
+use lib.ListN.{length, length-append}
 use Rattle.text.specs.Decimal.{digit, digits, decimal, valueFrom, valueOf}
 
 -- ---- the two cases
@@ -44,7 +43,7 @@ decimal-more n h =
     (ap (λ (ds : List ℕ). ds ++ (digit (n % 10) ∷ [])) (digits-enough n (suc (n / 10)) (n / 10) (omega arith) (omega arith)))
 
 -- What holds of each number below ten, and of every number of which it holds without its lowest digit, holds of every number.
-pub by-digits : (P : ℕ → Type 0) → ((n : ℕ) → n < 10 → P n) → ((n : ℕ) → 10 ≤ n → P (n / 10) → P n) → (n : ℕ) → P n
+by-digits : (P : ℕ → Type 0) → ((n : ℕ) → n < 10 → P n) → ((n : ℕ) → 10 ≤ n → P (n / 10) → P n) → (n : ℕ) → P n
 by-digits P one more n = go (suc n) n (omega arith)
   where
     go : (k n : ℕ) → n < k → P n
@@ -116,17 +115,6 @@ decimal-longer n h = ap length (decimal-more n h) ∙ length-last (decimal (n / 
 pub decimal-some : (n : ℕ) → 1 ≤ length (decimal n)
 decimal-some =
     by-digits (λ n. 1 ≤ length (decimal n)) (λ n l. rw (decimal-one n l) (omega arith)) (λ n l h. omega (arith, decimal-longer n l))
-
--- The first digit is `0` only in the number 0: no leading zero.
-pub decimal-lead : (n : ℕ) → getD (decimal n) 0 0 ≡ 48 → n ≡ 0
-decimal-lead =
-    by-digits (λ n. getD (decimal n) 0 0 ≡ 48 → n ≡ 0)
-    (λ n l e. let q : getD (digit n ∷ []) 0 0 ≡ 48 = rw decimal-one at e in omega arith)
-    (λ n l h e.
-    let same : getD (decimal n) 0 0 ≡ getD (decimal (n / 10)) 0 0 =
-    ap (λ (ds : List ℕ). getD ds 0 0) (decimal-more n l)
-    ∙ List·getD-append (decimal (n / 10)) (digit (n % 10) ∷ []) 0 0 (decimal-some (n / 10)) in
-    absurd (omega (arith, h (sym same ∙ e))))
 
 -- A number below ten to the k has k digits at most, where k is not 0.
 pub decimal-short : (k n : ℕ) → n < 10 ^ suc k → length (decimal n) ≤ suc k

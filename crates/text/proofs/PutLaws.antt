@@ -1,14 +1,14 @@
 -- Laws of bytes put into a lent list: none, one, those of two in a row, the turns of the two loops, and the text at the front.
 -- Assumes nothing.
-use Prim.Native.Nat.{ℕ, zero, suc, _+_, _≤_, _<_}
+use Prim.Native.Nat.{ℕ, suc, _+_, _≤_, _<_}
 use native.Mathlib.Omega.{arith}
 use native.Mathlib.Nat.{add-zero, zero-add}
 use native.Mathlib.Numerals.{add-one}
 use mathlib.Core.Path.{_≡_, refl, sym, ap, subst, _∙_}
 use mathlib.Core.Bool.{Bool}
 use mathlib.Core.List.{List, [], _∷_, _++_, flatten}
-use lib.ListN.{length, getD, set, take, drop, length-append, length-set}
-use lib.Seq.{sets, sets-eq, length-sets, take-suc, take-all, take-at}
+use lib.ListN.{length, getD, set, take, length-append}
+use lib.Seq.{sets, take-suc, take-all}
 use Rattle.text.specs.Text.{headerLine, elementLine, closingLine, elementLines, acceptedText}
 use Rattle.text.proofs.TextLaws.{elements-more, accepted-is}
 use Rattle.text.specs.Rendered.{bufferSize, putAt, Put, Rendered}
@@ -90,17 +90,6 @@ accepted-rendered labels levels verdicts selected {k} {n} e p q w h =
     (sym (accepted-is labels levels verdicts k selected) ∙ ap (λ (i : ℕ). acceptedText labels levels verdicts i selected) e)
     (put-then p (put-then q w)) in
     put-rendered (omega (arith, all .next-is)) all
-
--- What the buffer holds then: the text, and behind it what it held.
-pub rendered-is : {text out after : List ℕ} {r : ℕ} → length out ≡ bufferSize → Rendered text out r after → after ≡ text ++ drop (length text) out
-unfolding putAt
-rendered-is {text} {out} n p =
-    p .bytes-are ∙ sets-eq text out 0 (omega (arith, p .fits)) ∙ ap (λ (k : ℕ). text ++ drop k out) (zero-add (length text))
-
--- The first r bytes of the buffer are the text.
-pub rendered-text : {text out after : List ℕ} {r : ℕ} → length out ≡ bufferSize → Rendered text out r after → take r after ≡ text
-rendered-text {text} {out} {after} {r} n p =
-    ap (λ (l : List ℕ). take r l) (rendered-is n p) ∙ take-at text (drop (length text) out) r (sym (p .length-is))
 
 -- The promise of a public function determines the length and every byte of the buffer.
 pub rendered-only : {text out : List ℕ} {r r′ : ℕ} {a a′ : List ℕ} → Rendered text out r a → Rendered text out r′ a′ → (r ≡ r′) × (a ≡ a′)

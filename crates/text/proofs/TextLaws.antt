@@ -1,13 +1,13 @@
 -- Laws of the text: it is read back by lines as its own lines, one for each element and two more, line k + 1 being element k's; and
 -- the promises determine what they promise.
 -- Assumes nothing.
-use Prim.Native.Nat.{ℕ, zero, suc, _+_, _-_, _≤_, _<_}
+use Prim.Native.Nat.{ℕ, zero, suc, _+_, _<_}
 use native.Mathlib.Omega.{arith}
 use native.Mathlib.Numerals.{add-one}
 use native.Mathlib.Decide.{decLt}
 use borrow.Author.Tests.{ne-eqb, eqb-false}
 use mathlib.Core.Path.{_≡_, refl, sym, ap, _∙_}
-use mathlib.Core.Bool.{Bool, true, false, cond, not, _&&_}
+use mathlib.Core.Bool.{Bool, true, false, not, _&&_}
 use mathlib.Core.List.{List, [], _∷_, _++_, flatten, append-assoc, append-nil}
 use lib.Dec.{eqb}
 use lib.ListN.{length, getD, length-append, List·getD-append}
@@ -31,7 +31,8 @@ pub record Line (l : List ℕ) : Type 0 where
   pub within : Every Within body
   pub ends : l ≡ body ++ (lineFeed ∷ [])
 
-every-weaken : (P Q : ℕ → Type 0) → ((b : ℕ) → P b → Q b) → (bs : List ℕ) → Every P bs → Every Q bs
+-- What holds of every byte holds of them in any weaker form.
+pub every-weaken : (P Q : ℕ → Type 0) → ((b : ℕ) → P b → Q b) → (bs : List ℕ) → Every P bs → Every Q bs
 unfolding Every
 every-weaken P Q f [] h = tt
 every-weaken P Q f (b ∷ bs) h = (f b (h .0), every-weaken P Q f bs (h .1))
@@ -81,31 +82,31 @@ phrase-line first second x y p q =
     (line-after (field x space) _ (field-within x) (line-after second _ (unbroken-within second q) (field-line y)))
 
 -- The line of a refusal.
-pub refused-line : (number place : ℕ) → Line (refusedLine number place)
+refused-line : (number place : ℕ) → Line (refusedLine number place)
 unfolding refusedLine ascii unbroken
 refused-line number place = phrase-line (ascii "refused ") (ascii "at ") number place refl refl
 
 -- The header.
-pub header-line : Line headerLine
+header-line : Line headerLine
 unfolding headerLine ascii unbroken
 header-line = record { body = ascii "element label level selected"; within = unbroken-within _ refl; ends = refl }
 
 -- The line of an element.
-pub element-line : (element label level : ℕ) (verdict : Bool) → Line (elementLine element label level verdict)
+element-line : (element label level : ℕ) (verdict : Bool) → Line (elementLine element label level verdict)
 unfolding elementLine
 element-line element label level verdict =
     line-after (field element space) _ (field-within element)
     (line-after (field label space) _ (field-within label) (line-after (field level space) _ (field-within level) (field-line (bit verdict))))
 
 -- The closing line.
-pub closing-line : (selected elements : ℕ) → Line (closingLine selected elements)
+closing-line : (selected elements : ℕ) → Line (closingLine selected elements)
 unfolding closingLine ascii unbroken
 closing-line selected elements = phrase-line (ascii "selected ") (ascii "of ") selected elements refl refl
 
 -- ---- a text of lines is read back as these lines
 
 -- Each of the lists is a line.
-unfoldable pub AllLines : List (List ℕ) → Type 0
+unfoldable AllLines : List (List ℕ) → Type 0
 AllLines [] = Unit
 AllLines (l ∷ ls) = Line l × AllLines ls
 
@@ -122,7 +123,7 @@ lines-next held [] rest h = refl
 lines-next held (b ∷ bs) rest h = rw (ne-eqb b lineFeed (h .0)) (lines-next (held ++ (b ∷ [])) bs rest (h .1) ∙ rw append-snoc)
 
 -- Reading by lines gives back the lines.
-pub lines-back : (ls : List (List ℕ)) → AllLines ls → linesIn (flatten ls) ≡ ls
+lines-back : (ls : List (List ℕ)) → AllLines ls → linesIn (flatten ls) ≡ ls
 unfolding linesFrom flatten AllLines
 lines-back [] h = refl
 lines-back (l ∷ ls) h =
@@ -153,13 +154,13 @@ module _ (labels levels : List ℕ) (verdicts : ℕ → Bool) where
       (element-line k (getD labels k 0) (getD levels k 0) (verdicts k), tt)
 
   -- Every line of the text is a line: it ends with its only line feed.
-  pub accepted-lines : (n selected : ℕ) → AllLines (acceptedLines labels levels verdicts n selected)
+  accepted-lines : (n selected : ℕ) → AllLines (acceptedLines labels levels verdicts n selected)
   unfolding acceptedLines AllLines
   accepted-lines n selected =
       (header-line, lines-append (elementLines labels levels verdicts n) (closingLine selected n ∷ []) (element-lines n) (closing-line selected n, tt))
 
   -- The text, read by lines, is its lines.
-  pub accepted-back : (n selected : ℕ) → linesIn (acceptedText labels levels verdicts n selected) ≡ acceptedLines labels levels verdicts n selected
+  accepted-back : (n selected : ℕ) → linesIn (acceptedText labels levels verdicts n selected) ≡ acceptedLines labels levels verdicts n selected
   unfolding acceptedText
   accepted-back n selected = lines-back (acceptedLines labels levels verdicts n selected) (accepted-lines n selected)
 

@@ -1,6 +1,6 @@
 -- What a text says: two texts that are equal say the same numbers, field by field and line by line.
 -- Assumes nothing.
-use Prim.Native.Nat.{ℕ, suc, _+_, _≤_, _<_}
+use Prim.Native.Nat.{ℕ, suc, _<_}
 use native.Mathlib.Omega.{arith}
 use mathlib.Core.Path.{_≡_, refl, sym, ap, _∙_}
 use mathlib.Core.Bool.{Bool, true, false}
@@ -9,7 +9,7 @@ use lib.ListN.{length, getD, drop}
 use lib.Seq.{drop-append-seam}
 use Rattle.meaning.specs.Marks.{bit}
 use Rattle.text.specs.Decimal.{decimal}
-use Rattle.text.specs.Text.{ascii, space, lineFeed, field, phrase, refusedLine, elementLine, closingLine, lineOf, acceptedText}
+use Rattle.text.specs.Text.{ascii, space, lineFeed, field, phrase, refusedLine, elementLine, closingLine, acceptedText}
 use Rattle.text.specs.Lines.{linesIn}
 use Rattle.text.proofs.DecimalLaws.{Every, Digit, decimal-digits, decimal-only}
 use Rattle.text.proofs.TextLaws.{accepted-count, accepted-at, accepted-last}
@@ -28,7 +28,7 @@ cut-only (x ∷ xs) (y ∷ ys) r s end h p q e =
     (let v = w .0 in cc, w .1)
 
 -- A field says its number, whatever stands behind it.
-pub field-only : (end : ℕ) → (Digit end → ⊥) → (m n : ℕ) (r s : List ℕ) → field m end ++ r ≡ field n end ++ s → (m ≡ n) × (r ≡ s)
+field-only : (end : ℕ) → (Digit end → ⊥) → (m n : ℕ) (r s : List ℕ) → field m end ++ r ≡ field n end ++ s → (m ≡ n) × (r ≡ s)
 unfolding field
 field-only end h m n r s e =
     let w = cut-only (decimal m) (decimal n) r s end h (decimal-digits m) (decimal-digits n)
@@ -46,7 +46,7 @@ bit-only false true e = absurd (omega arith)
 bit-only false false e = refl
 
 -- The line of an element says its number, its label, its level and its verdict.
-pub element-only : {e e′ l l′ d d′ : ℕ} {v v′ : Bool} → elementLine e l d v ≡ elementLine e′ l′ d′ v′ → (e ≡ e′) × (l ≡ l′) × (d ≡ d′) × (v ≡ v′)
+element-only : {e e′ l l′ d d′ : ℕ} {v v′ : Bool} → elementLine e l d v ≡ elementLine e′ l′ d′ v′ → (e ≡ e′) × (l ≡ l′) × (d ≡ d′) × (v ≡ v′)
 unfolding elementLine
 element-only {e} {e′} {l} {l′} {d} {d′} {v} {v′} p =
     let a = field-only space (λ w. omega arith) e e′ _ _ p in
@@ -67,7 +67,7 @@ unfolding refusedLine
 refused-only e = phrase-only (ascii "refused ") (ascii "at ") e
 
 -- The closing line says how many are selected, and of how many.
-pub closing-only : {s s′ n n′ : ℕ} → closingLine s n ≡ closingLine s′ n′ → (s ≡ s′) × (n ≡ n′)
+closing-only : {s s′ n n′ : ℕ} → closingLine s n ≡ closingLine s′ n′ → (s ≡ s′) × (n ≡ n′)
 unfolding closingLine
 closing-only e = phrase-only (ascii "selected ") (ascii "of ") e
 

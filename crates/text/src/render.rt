@@ -2,7 +2,6 @@
 ghost use mathlib.Core.Path.{_≡_};
 ghost use Prim.Native.Nat.{_+_, _*_, _≤_, _<_};
 ghost use lib.ListN.{length};
-ghost use Rattle.meaning.specs.Marks.{bit, bitAt};
 ghost use Rattle.text.specs.Text.{refusedLine, elementLine};
 ghost use Rattle.text.specs.Rendered.{Put, Rendered, clamped, tableLines, tableText, bufferSize};
 ghost use Rattle.records.specs.Limits.{elementsMost};

@@ -1,7 +1,7 @@
 -- `pz_tally` meets its contract: a walk of its MIR, by hand. The borrow is opened, the tally is copied out, the verdict is compared with
 -- 0, and both are passed to `count`; the tally that comes back is stored where the first stood, and the borrow is closed at it.
 -- All that the walk knows of `count` is that it meets its contract. Assumes nothing.
-use mathlib.Core.Path.{_≡_, refl, ap}
+use mathlib.Core.Path.{refl, ap}
 use mathlib.Core.Bool.{Bool}
 use Prim.Native.Nat.{ℕ, _<_, _^_}
 use mathlib.Core.List.{[], _∷_, List}

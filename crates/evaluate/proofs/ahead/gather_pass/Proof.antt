@@ -1,5 +1,5 @@
 -- `gather_pass`: the elements passed have given to those that they lead to. Assumes nothing.
-use Prim.Native.Nat.{ℕ, _≤_, _<_, _-_}
+use Prim.Native.Nat.{_≤_, _-_}
 use lib.ListN.{length}
 use Rattle.evaluate.specs.Pass.{Passed}
 use Rattle.evaluate.proofs.AheadLaws.{given-by, gather-start, gather-turn, gather-end}

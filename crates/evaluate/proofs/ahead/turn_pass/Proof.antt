@@ -1,5 +1,5 @@
 -- `turn_pass`: the elements passed have their marks, and have given to those that they lead to. Assumes nothing.
-use Prim.Native.Nat.{ℕ, _≤_, _<_, _-_}
+use Prim.Native.Nat.{_<_, _-_}
 use mathlib.Core.Path.{_≡_}
 use lib.ListN.{length, length-set}
 use Rattle.evaluate.proofs.AheadLaws.{AheadMid, ahead-start, ahead-before, ahead-turn, ahead-end}

@@ -1,6 +1,6 @@
 -- `back_pass`: the elements passed have their marks, and a column leads to one of them. Assumes nothing.
-use Prim.Native.Nat.{ℕ, _≤_, _<_, _-_}
-use lib.ListN.{length, getD}
+use Prim.Native.Nat.{_≤_, _-_}
+use lib.ListN.{length}
 use Rattle.meaning.specs.Tree.{backward}
 use Rattle.evaluate.specs.Links.{leads}
 use Rattle.evaluate.specs.Pass.{Passed, bitsOf}

@@ -1,6 +1,5 @@
 -- `clear`: the words passed are 0. Assumes nothing.
-use Prim.Native.Nat.{ℕ, _≤_, _<_, _-_}
-use lib.ListN.{length, getD}
+use Prim.Native.Nat.{_≤_, _-_}
 use Rattle.evaluate.specs.Pass.{Stored}
 use Rattle.evaluate.proofs.PassLaws.{clear-start, clear-turn}
 use mathlib.Core.Path.{_≡_}

@@ -1,6 +1,6 @@
 -- `count_selected`: the words passed are counted. Assumes nothing.
-use Prim.Native.Nat.{ℕ, _+_, _≤_, _<_, _-_}
-use lib.ListN.{length, take}
+use Prim.Native.Nat.{_≤_, _-_}
+use lib.ListN.{take}
 use mathlib.Core.Path.{_≡_}
 use Rattle.meaning.specs.Marks.{selected}
 use Rattle.evaluate.proofs.KindLaws.{count-turn}

@@ -1,6 +1,4 @@
 -- `mark_all`: linked, cleared, marked and counted. Assumes nothing.
-use lib.ListN.{length}
-use Rattle.grammar.specs.Columns.{tableOf}
 use Rattle.evaluate.proofs.PassLaws.{clear-room, stored-after}
 use Rattle.grammar.proofs.Columns.{table-length}
 use Rattle.evaluate.proofs.KindLaws.{table-few, marked-of}

@@ -1,5 +1,5 @@
 -- `along_pass`: the direction of the axis decides on the pass. Assumes nothing.
-use mathlib.Core.Path.{_≡_, sym, _∙_}
+use mathlib.Core.Path.{sym, _∙_}
 use Rattle.meaning.specs.Tree.{direction}
 use Rattle.evaluate.specs.Steps.{alongMark, aheadMark, Nearest}
 use borrow.Author.Needs.{needs}

@@ -1,7 +1,6 @@
 -- `mark_entries`: the words have the marks of the entries passed. Assumes nothing.
-use Prim.Native.Nat.{ℕ, _+_, _≤_, _<_, _-_}
+use Prim.Native.Nat.{_≤_, _-_}
 use lib.ListN.{length}
-use mathlib.Core.Path.{_≡_}
 use Rattle.evaluate.specs.Pass.{Stored}
 use Rattle.grammar.specs.Columns.{tableOf}
 use Rattle.evaluate.proofs.KindLaws.{wordUpTo, words-start, words-room, table-few, table-fits, table-turn, table-end}

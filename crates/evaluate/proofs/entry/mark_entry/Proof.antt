@@ -1,5 +1,5 @@
 -- `mark_entry`: each shape has its pass, and the pass leaves what the shape means. Assumes nothing.
-use mathlib.Core.Path.{_≡_, refl}
+use mathlib.Core.Path.{refl}
 use mathlib.Core.List.{[]}
 use Rattle.records.specs.declared.kind.Axis.the-variants.{Child}
 use Rattle.records.specs.Kinds.{numbersOf}

@@ -1,7 +1,6 @@
 -- `evaluate_within`: the report reader's refusal first, then what `weigh` says of its tables. Assumes nothing.
 use native.Mathlib.Omega.{arith}
-use Prim.Native.Nat.{ℕ}
-use mathlib.Core.Path.{_≡_, refl, ap, sym, _∙_}
+use mathlib.Core.Path.{ap, sym, _∙_}
 use Rattle.records.specs.Answer.{placeOf}
 use Rattle.records.proofs.Bounds.{report-small}
 use Rattle.evaluate.proofs.EvaluateLaws.{elements-read, reported-refused, reported-accepted}

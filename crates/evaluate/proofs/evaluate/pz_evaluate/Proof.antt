@@ -1,7 +1,7 @@
 -- `pz_evaluate`: the rule reader's refusal first, then what `evaluate_report` says of its tables. Assumes nothing.
 use borrow.Author.Needs.{needs}
 use Prim.Native.Nat.{ℕ}
-use mathlib.Core.Path.{_≡_, refl, ap, sym, _∙_}
+use mathlib.Core.Path.{ap, sym, _∙_}
 use lib.ListN.{length-replicate}
 use Rattle.records.specs.Answer.{placeOf}
 use Rattle.evaluate.proofs.EvaluateLaws.{rule-place, filled-length, entries-read, evaluated-refused, evaluated-accepted}

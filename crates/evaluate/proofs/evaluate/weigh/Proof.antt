@@ -1,8 +1,6 @@
 -- `weigh`: 9 where the buffer is too short, else the marking's words. Assumes nothing.
 use native.Mathlib.Omega.{arith}
-use Prim.Native.Nat.{ℕ}
-use mathlib.Core.Path.{_≡_, sym}
-use lib.ListN.{length, take}
+use mathlib.Core.Path.{sym}
 use lib.Seq.{length-take-le}
 use Rattle.evaluate.proofs.EvaluateLaws.{weighed-short, weighed-room, marked-few}
 use borrow.Author.Needs.{needs}

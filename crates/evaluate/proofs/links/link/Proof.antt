@@ -1,8 +1,7 @@
 -- `link`: the columns lead from the elements passed. Assumes nothing.
-use Prim.Native.Nat.{ℕ, _≤_, _<_, _-_}
+use Prim.Native.Nat.{_≤_, _-_}
 use native.Mathlib.Omega.{arith}
-use mathlib.Core.Path.{_≡_, refl}
-use lib.ListN.{length, getD}
+use lib.ListN.{length}
 use Rattle.evaluate.proofs.LinkLaws.{LinkMore, more-start, more-turn-at, link-end}
 use borrow.Author.Needs.{needs}
 use Rattle.evaluate.proofs.links.link.Statement.{statement}

@@ -1,5 +1,5 @@
 -- `gate_pass`: the elements passed have their marks. Assumes nothing.
-use Prim.Native.Nat.{ℕ, _≤_, _<_, _-_}
+use Prim.Native.Nat.{_≤_, _-_}
 use Rattle.evaluate.specs.Pass.{Passed, bitsOf}
 use Rattle.evaluate.specs.Steps.{gateMark}
 use Rattle.evaluate.proofs.PassLaws.{before-only, ascent-start, ascent-turn, ascent-end}

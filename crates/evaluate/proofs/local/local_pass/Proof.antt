@@ -1,6 +1,6 @@
 -- `local_pass`: each question has its gate, and that of a label its own pass. Assumes nothing.
 use native.Mathlib.Omega.{arith}
-use mathlib.Core.Path.{_≡_, refl}
+use mathlib.Core.Path.{refl}
 use Rattle.records.specs.Kinds.{localNumbers}
 use Rattle.meaning.specs.Marks.{meansHere}
 use Rattle.evaluate.specs.Steps.{gateMark}

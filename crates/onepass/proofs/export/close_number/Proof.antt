@@ -1,6 +1,6 @@
 -- `close_number` asks 10, 11 and the tag's own number, in this order. Assumes nothing.
 use native.Mathlib.Omega.{arith}
-use mathlib.Core.Path.{_≡_, refl, ap, sym, _∙_}
+use mathlib.Core.Path.{_∙_}
 use mathlib.Core.Bool.{false}
 use Rattle.records.specs.Tags.{tagFault}
 use Rattle.onepass.specs.State.{stateOf}

@@ -1,6 +1,5 @@
 -- `close_step` stores. Assumes nothing.
 use native.Mathlib.Omega.{arith}
-use mathlib.Core.Path.{_≡_, refl, ap, sym, _∙_}
 use Rattle.onepass.proofs.CallLaws.{refused-is}
 use Rattle.onepass.proofs.CodeLaws.{closes-fine, closed-done, some-entries}
 use borrow.Author.Needs.{needs}

@@ -1,6 +1,6 @@
 -- `open_number` asks 10, 11 and the tag's own numbers, in this order. Assumes nothing.
 use native.Mathlib.Omega.{arith}
-use mathlib.Core.Path.{_≡_, refl, ap, sym, _∙_}
+use mathlib.Core.Path.{_∙_}
 use mathlib.Core.Bool.{false}
 use Rattle.onepass.specs.State.{stateOf}
 use Rattle.onepass.proofs.CodeLaws.{tested-long, number-ahead, number-bad, number-fault}

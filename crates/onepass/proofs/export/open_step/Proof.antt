@@ -1,6 +1,6 @@
 -- `open_step` stores the word. Assumes nothing.
 use native.Mathlib.Omega.{arith}
-use mathlib.Core.Path.{_≡_, refl, ap, sym, _∙_}
+use mathlib.Core.Path.{sym, _∙_}
 use Rattle.onepass.proofs.CallLaws.{refused-is}
 use Rattle.onepass.proofs.CodeLaws.{opens-fine, opened-walked, some-entries}
 use borrow.Author.Needs.{needs}

@@ -1,6 +1,6 @@
 -- `pz_open` walks the rule once, and goes on where it is accepted. Assumes nothing.
 use native.Mathlib.Omega.{arith}
-use mathlib.Core.Path.{_≡_, refl, ap, sym, _∙_}
+use mathlib.Core.Path.{sym, _∙_}
 use Rattle.onepass.proofs.CodeLaws.{accepted-range, accepted-count, walked-ahead, walked-word, refused-place, accepted-call, refused-call}
 use borrow.Author.Needs.{needs}
 use Rattle.onepass.proofs.export.pz_open.Statement.{statement}

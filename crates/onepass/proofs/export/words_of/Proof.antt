@@ -1,9 +1,8 @@
 -- Assumes nothing.
 use native.Mathlib.Omega.{arith}
-use mathlib.Core.Path.{_≡_, refl, ap, sym, _∙_}
-use mathlib.Core.Bool.{true, false}
-use Rattle.onepass.specs.State.{bad, depthIn}
-use Rattle.onepass.proofs.CodeLaws.{tested-long, true-false}
+use mathlib.Core.Path.{_∙_}
+use Rattle.onepass.proofs.CodeLaws.{tested-long}
+use Rattle.records.proofs.First.{clash}
 use borrow.Author.Needs.{needs}
 use Rattle.onepass.proofs.export.words_of.Statement.{statement}
 use Rattle.onepass.proofs.export.words_of.Tie as tie
@@ -12,7 +11,7 @@ bad-state-requires : tie.Need-bad-state-requires
 bad-state-requires c κs = search needs
 
 returns : tie.Need-returns
-returns c = record { parent-is = λ b d. true-false (c .if1 .taken) (c .before .bad-state .ensures ∙ b); sibling-is = λ b d. true-false (c .if1 .taken) (c .before .bad-state .ensures ∙ b) }
+returns c = record { parent-is = λ b d. clash (c .if1 .taken) (c .before .bad-state .ensures ∙ b); sibling-is = λ b d. clash (c .if1 .taken) (c .before .bad-state .ensures ∙ b) }
 
 number-at-requires : tie.Need-number-at-requires
 number-at-requires c κs = omega (arith, tested-long _ _ (c .before .bad-state .ensures) (c .if1 .left))

@@ -1,6 +1,6 @@
 -- `walk_rule`: each turn takes one record, asks whether it looks ahead, and adds its bit. Assumes nothing.
 use native.Mathlib.Omega.{arith}
-use mathlib.Core.Path.{_≡_, refl, ap, sym, subst, _∙_}
+use mathlib.Core.Path.{_≡_, refl, ap, sym, _∙_}
 use Prim.Native.Nat.{ℕ, _+_, _≤_, _-_}
 use lib.ListN.{length}
 use Rattle.records.specs.Bytes.{numberAt}
@@ -14,7 +14,6 @@ use Rattle.records.proofs.RuleLaws.{rule-sound, rule-next, rule-turn, rule-acce
 use Rattle.records.proofs.WalkLaws.{entries-ended, entries-stopped, entries-none, entries-many}
 use Rattle.meaning.specs.OnePass.{stepWord}
 use Rattle.onepass.specs.Step.{looksAhead}
-use Rattle.onepass.specs.Walk.{Walked}
 use Rattle.onepass.proofs.StepLaws.{step-small}
 use Rattle.onepass.proofs.WalkLaws.{StepMid, word-more, ahead-then, walk-done, walk-none}
 use borrow.Author.Needs.{needs}
