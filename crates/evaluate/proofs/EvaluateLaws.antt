@@ -33,6 +33,7 @@ use Rattle.evaluate.specs.Pass.{Marked}
 use Rattle.grammar.specs.Columns.{tableOf}
 use Rattle.evaluate.specs.declared.evaluate.Evaluation.{Evaluation}
 use Rattle.grammar.proofs.Columns.{table-of-columns}
+use Rattle.records.specs.Limits.{elementsMost, entriesMost, reportMost}
 
 -- ---- a filled column
 
@@ -134,7 +135,7 @@ module _ (rule report marks : List ℕ) where
 -- The columns of an accepted report: n labels and n levels, those of the report.
 pub record ElementsRead (report labels : List ℕ) (n : ℕ) (ls ds : List ℕ) : Type 0 where
   pub is : Accepted n ≡ reportAnswer report
-  pub few : n ≤ 4096
+  pub few : n ≤ elementsMost
   pub fits : n ≤ length labels
   pub labels-room : n ≤ length ls
   pub levels-room : n ≤ length ds
@@ -143,11 +144,11 @@ pub record ElementsRead (report labels : List ℕ) (n : ℕ) (ls ds : List ℕ) 
   pub legal : LegalLevels (take n ds)
 
 pub elements-read : (report labels levels : List ℕ) {r : Answer} {n : ℕ} {ls ds : List ℕ}
-    → (length report ≤ 40960 → length report ≤ 10 * length labels) → length levels ≡ length labels
+    → (length report ≤ reportMost → length report ≤ 10 * length labels) → length levels ≡ length labels
     → ElementsTaken report labels levels r ls ds → r ≡ Accepted n → ElementsRead report labels n ls ds
 elements-read report labels levels {r} {n} {ls} {ds} room b f e =
     let is : Accepted n ≡ reportAnswer report = sym e ∙ f .answer in
-    let few : n ≤ 4096 = subst (λ (x : Answer). countOf x ≤ 4096) (sym is) (report-small report .count-in) in
+    let few : n ≤ elementsMost = subst (λ (x : Answer). countOf x ≤ elementsMost) (sym is) (report-small report .count-in) in
     let size : length report ≡ 10 * n = f .sized n e in
     let room′ : length report ≤ 10 * length labels = room (omega arith) in
     let fits : n ≤ length labels = omega arith in
@@ -178,7 +179,7 @@ pub record EntriesRead (rule : List ℕ) (n : ℕ) (ks fs ss : List ℕ) : Type 
   pub table-rule : RuleEntries (tableOf n ks fs ss)
 
 pub entries-read : (rule kinds firsts seconds : List ℕ) {r : Answer} {n : ℕ} {ks fs ss : List ℕ}
-    → length kinds ≡ 64 → length firsts ≡ 64 → length seconds ≡ 64
+    → length kinds ≡ entriesMost → length firsts ≡ entriesMost → length seconds ≡ entriesMost
     → EntriesTaken rule kinds firsts seconds r ks fs ss → r ≡ Accepted n → EntriesRead rule n ks fs ss
 entries-read rule kinds firsts seconds {r} {n} {ks} {fs} {ss} a b c f e =
     let is : Accepted n ≡ ruleAnswer rule = sym e ∙ f .answer in
@@ -187,20 +188,20 @@ entries-read rule kinds firsts seconds {r} {n} {ks} {fs} {ss} a b c f e =
     let firsts-are : fs ≡ over (map aOf (entriesOf rule)) firsts = rw all at (f .firsts-are) in
     let seconds-are : ss ≡ over (map bOf (entriesOf rule)) seconds = rw all at (f .seconds-are) in
     let le : length (entriesOf rule) ≡ n = entries-count rule ∙ ap countOf (sym is) in
-    let few : n ≤ 64 = omega (arith, entries-few rule) in
+    let few : n ≤ entriesMost = omega (arith, entries-few rule) in
     let whole : RuleEntries (entriesOf rule) = rule-entries rule n (sym is) in
     let table : tableOf n ks fs ss ≡ entriesOf rule =
     rw (kinds-are, firsts-are, seconds-are, ← le)
     (table-of-columns (entriesOf rule) kinds firsts seconds (omega arith) (omega arith) (omega arith)) in
     record {
       is = is;
-      kinds-room = omega (arith, filled-length (map kindOf (entriesOf rule)) kinds 64 kinds-are a);
-      firsts-room = omega (arith, filled-length (map aOf (entriesOf rule)) firsts 64 firsts-are b);
-      seconds-room = omega (arith, filled-length (map bOf (entriesOf rule)) seconds 64 seconds-are c);
+      kinds-room = omega (arith, filled-length (map kindOf (entriesOf rule)) kinds entriesMost kinds-are a);
+      firsts-room = omega (arith, filled-length (map aOf (entriesOf rule)) firsts entriesMost firsts-are b);
+      seconds-room = omega (arith, filled-length (map bOf (entriesOf rule)) seconds entriesMost seconds-are c);
       table-read = table;
       table-rule = subst RuleEntries (sym table) whole;
     }
 
 -- The place of a rule's refusal fits where a report's does.
-pub rule-place : (rule : List ℕ) → placeOf (ruleAnswer rule) ≤ 40960
+pub rule-place : (rule : List ℕ) → placeOf (ruleAnswer rule) ≤ reportMost
 rule-place rule = omega (arith, rule-small rule .place-in)

@@ -26,7 +26,7 @@ use Rattle.records.specs.declared.kind.Shape.the-variants.{Nothing as nothing, 
 use Rattle.records.specs.declared.kind.Local.{Local}
 use Rattle.records.specs.declared.kind.Numbers.the-variants.{Entries}
 use Rattle.records.specs.Kinds.{shapeOf, numbersOf, leadsBack}
-use Rattle.meaning.specs.Marks.{bit, bitAt, meansHere, means, mark, word, wordOf, words, selected}
+use Rattle.meaning.specs.Marks.{bit, bitAt, meansHere, means, mark, word, wordOf, words, selected, wordBits}
 use Rattle.meaning.proofs.Tests.{bool-told}
 use Rattle.meaning.proofs.Reflect.{means-told}
 use Rattle.meaning.proofs.OneStep.{mark-rule, plain}
@@ -39,6 +39,7 @@ use Rattle.evaluate.specs.declared.ahead.Look.the-variants.{Every}
 use Rattle.evaluate.proofs.LinkLaws.{ups-all, lefts-all, parent-next}
 use Rattle.evaluate.proofs.PassLaws.{stored-start, stored-same, passed-start}
 use Rattle.grammar.proofs.Columns.{table-length, table-at}
+use Rattle.records.specs.Limits.{entriesMost}
 
 -- ---- the table of passes
 
@@ -184,7 +185,7 @@ module _ (levels labels : List ℕ) (entries : List Entry) where
   words-start room =
       stored-same (length levels) _ (λ s l. let h = room .small s l in omega arith) (stored-start (length levels) _)
 
-  pub words-room : {i : ℕ} {before ws : List ℕ} → Room (length levels) 0 before → i < 64 → Stored (length levels) (wordUpTo i) before ws
+  pub words-room : {i : ℕ} {before ws : List ℕ} → Room (length levels) 0 before → i < wordBits → Stored (length levels) (wordUpTo i) before ws
       → Room (length levels) i ws
   words-room {i} room l r =
       record {
@@ -224,7 +225,7 @@ module _ (levels labels : List ℕ) (entries : List Entry) where
 
 module _ (n : ℕ) (kinds firsts seconds : List ℕ) (rule : RuleEntries (tableOf n kinds firsts seconds)) where
   -- A rule in a table has 1 to 64 entries.
-  pub table-few : (1 ≤ n) × (n ≤ 64)
+  pub table-few : (1 ≤ n) × (n ≤ entriesMost)
   table-few = let e = table-length kinds firsts seconds n in (omega (arith, rule .nonempty), omega (arith, rule .few))
 
   module _ (i : ℕ) (l : i < n) where

@@ -18,6 +18,7 @@ use Rattle.meaning.specs.Links.{lastUpTo, ifLevel, parentAt, parent, previous}
 use Rattle.meaning.proofs.Links.{Last, last-here, last-past, level-iff, guard-iff, Down, parent-is, parent-within, previous-within}
 use Rattle.meaning.proofs.Tests.{Finds}
 use Rattle.evaluate.specs.Links.{leadsTo, leads, Leads, Linked, upOf, leftOf}
+use Rattle.records.specs.Limits.{levelsMost}
 
 -- ---- where a column leads
 
@@ -104,7 +105,7 @@ pub record LinkMid (levels ups lefts held : List ℕ) (depth s : ℕ) : Type 0 w
   pub within : s ≤ length levels
   pub ups-long : length ups ≡ length levels
   pub lefts-long : length lefts ≡ length levels
-  pub held-long : 64 ≤ length held
+  pub held-long : levelsMost ≤ length held
   pub ups-lead : Leads (parent levels) s ups
   pub lefts-lead : Leads (previous levels) s lefts
   pub reach : (k : ℕ) → suc k ≡ s → depth ≡ suc (getD levels k 0)
@@ -113,7 +114,7 @@ pub record LinkMid (levels ups lefts held : List ℕ) (depth s : ℕ) : Type 0 w
 leads-none : (F : ℕ → Option ℕ) (f : List ℕ) → Leads F 0 f
 leads-none F f = record { lead = λ s l. absurd (omega arith); near = λ s l. absurd (omega arith) }
 
-link-start : (levels ups lefts held : List ℕ) → length ups ≡ length levels → length lefts ≡ length levels → 64 ≤ length held
+link-start : (levels ups lefts held : List ℕ) → length ups ≡ length levels → length lefts ≡ length levels → levelsMost ≤ length held
     → LinkMid levels ups lefts held 0 0
 link-start levels ups lefts held u f h =
     record {

@@ -17,6 +17,7 @@ use Rattle.meaning.specs.Marks.{bit, bitAt}
 use Rattle.meaning.proofs.Words.{bit-top, bit-under}
 use Rattle.evaluate.specs.Pass.{Stored, Passed, Room, bitsOf}
 use Rattle.evaluate.proofs.WordLaws.{joined-bit}
+use Rattle.records.specs.Limits.{elementsMost}
 
 -- The values w, with v at t.
 abbrev pub at-put : {A : Type 0} → (ℕ → A) → (t : ℕ) → A → ℕ → A
@@ -67,7 +68,7 @@ clear-turn {before} {after} k l r =
     }
 
 -- Words that are 0 have room for entry 0.
-pub clear-room : {n : ℕ} {before after : List ℕ} → n ≤ 4096 → n ≤ length before → Stored n (λ s. 0) before after → Room n 0 after
+pub clear-room : {n : ℕ} {before after : List ℕ} → n ≤ elementsMost → n ≤ length before → Stored n (λ s. 0) before after → Room n 0 after
 clear-room few room r =
     record { few = few; room = omega (arith, r .long); top = omega arith; small = λ s l. rw (r .put s l) (omega arith) }
 

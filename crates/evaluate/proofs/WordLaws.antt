@@ -7,27 +7,27 @@ use mathlib.Core.Bool.{Bool, true, false, xor, _&&_, _||_}
 use lib.Dec.{eqb}
 use lib.Bits.{bitAnd, bitOr, bitXor, and-comm, and-zero-l, and-mask, or-shifted-r, or-block, or-zero-r, and-mod, or-mod, xor-mod}
 use lib.Pow.{pow-pos, shl-exact}
-use Rattle.meaning.specs.Marks.{bit}
+use Rattle.meaning.specs.Marks.{bit, wordBits}
 use Rattle.meaning.proofs.Words.{bit-small, bit-told}
 use Rattle.evaluate.specs.Steps.{gateMark}
 use Rattle.evaluate.specs.declared.local.Gate.{Gate}
 
 -- 1 shifted by i fits a word, and is 1 or more.
-pub one-shifted : (i : ℕ) → i < 64 → (1 ≤ (1 * 2 ^ i) % 2 ^ 64) × ((1 * 2 ^ i) % 2 ^ 64 ≡ 2 ^ i)
+pub one-shifted : (i : ℕ) → i < wordBits → (1 ≤ (1 * 2 ^ i) % 2 ^ wordBits) × ((1 * 2 ^ i) % 2 ^ wordBits ≡ 2 ^ i)
 one-shifted i l =
-    let e : (1 * 2 ^ i) % 2 ^ 64 ≡ 2 ^ i = shl-exact 1 i 64 (omega arith) (omega arith) ∙ one-mul (2 ^ i) in
+    let e : (1 * 2 ^ i) % 2 ^ wordBits ≡ 2 ^ i = shl-exact 1 i wordBits (omega arith) (omega arith) ∙ one-mul (2 ^ i) in
     (omega (arith, pow-pos i), e)
 
 -- The machine's `(w & ((1 << i) - 1)) | ((on as u64) << i)`.
-pub masked-bit : (i w : ℕ) (on : Bool) → i < 64
-    → bitOr (bitAnd w ((1 * 2 ^ i) % 2 ^ 64 - 1)) ((bit on * 2 ^ i) % 2 ^ 64) ≡ bit on * 2 ^ i + w % 2 ^ i
+pub masked-bit : (i w : ℕ) (on : Bool) → i < wordBits
+    → bitOr (bitAnd w ((1 * 2 ^ i) % 2 ^ wordBits - 1)) ((bit on * 2 ^ i) % 2 ^ wordBits) ≡ bit on * 2 ^ i + w % 2 ^ i
 masked-bit i w on l =
-    rw (one-shifted i l .1, and-mask w i, shl-exact 1 i 64 (bit-small on) (omega arith))
+    rw (one-shifted i l .1, and-mask w i, shl-exact 1 i wordBits (bit-small on) (omega arith))
     (or-shifted-r (bit on) i (w % 2 ^ i) (mod-lt w (pow-pos i)))
 
 -- The machine's `on << i`, of a number below 2.
-pub shifted-number : (i n : ℕ) → i < 64 → n < 2 → (n * 2 ^ i) % 2 ^ 64 ≡ n * 2 ^ i
-shifted-number i n l h = shl-exact 1 i 64 (omega arith) (omega arith)
+pub shifted-number : (i n : ℕ) → i < wordBits → n < 2 → (n * 2 ^ i) % 2 ^ wordBits ≡ n * 2 ^ i
+shifted-number i n l h = shl-exact 1 i wordBits (omega arith) (omega arith)
 
 or-bits : (p q : Bool) → bitOr (bit p) (bit q) ≡ bit (p || q)
 or-bits true true = refl

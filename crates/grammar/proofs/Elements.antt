@@ -21,6 +21,7 @@ use Rattle.grammar.proofs.Fits.{fit-few, fit-labelled, legal-levels}
 use Rattle.grammar.proofs.Trees.{tree-some, tags-size, legal-tree}
 use Rattle.grammar.proofs.WhenReport.{report-accepted-iff, report-last}
 use Rattle.grammar.proofs.ReportBytes.{clean-fit, tags-are, tree-accepted}
+use Rattle.records.specs.Limits.{elementsMost}
 
 tags-length : (s : List ℕ) (i : ℕ) → length (tagsBefore s i) ≡ i
 unfolding tagsBefore
@@ -87,9 +88,9 @@ module _ (s : List ℕ) where
   levels-elements = found-count (levels (tagsOf s)) (levels-count 0 (tagsOf s))
 
   -- There are at most 4,096 elements.
-  pub elements-few : countOf (reportAnswer s) ≤ 4096
+  pub elements-few : countOf (reportAnswer s) ≤ elementsMost
   elements-few = go (reportAnswer s) refl where
-    go : (a : Answer) → reportAnswer s ≡ a → countOf a ≤ 4096
+    go : (a : Answer) → reportAnswer s ≡ a → countOf a ≤ elementsMost
     go (Accepted n) e = omega (arith, accepted-opened n e, fit-few (tagsOf s) 0 0 (omega arith) (accepted-legal n e .fit))
     go (Refused k p) e = omega arith
 

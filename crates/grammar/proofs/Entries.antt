@@ -25,6 +25,7 @@ use Rattle.grammar.proofs.Frame.{unfaulty-sound}
 use Rattle.records.proofs.Rows.{known-range, kind-label, kind-entries}
 use Rattle.records.proofs.TableLaws.{entries-length}
 use Rattle.grammar.proofs.WhenRule.{fault-0-iff, rule-accepted-iff}
+use Rattle.records.specs.Limits.{entriesMost, labelMost, ruleMost}
 
 -- ---- a well-formed entry
 
@@ -53,11 +54,11 @@ module _ (own : ℕ) (e : Entry) (formed : WellFormed own e) where
   formed-b l = formed-entries (kind-entries (e .kind) l (formed-kind .1)) .1
 
   -- Its label is in 1..999, where it has one.
-  formed-label : e .kind ≡ 2 → (1 ≤ e .a) × (e .a ≤ 999)
+  formed-label : e .kind ≡ 2 → (1 ≤ e .a) × (e .a ≤ labelMost)
   formed-label k =
       let h = ap (λ (x : ℕ). rowOf x .numbers) k ∙ kind-label in
       let low : e .a < 1 → ⊥ = λ o. formed .directed (bad-label h (inl o)) in
-      let high : 999 < e .a → ⊥ = λ o. formed .directed (bad-label h (inr o)) in (omega arith, omega arith)
+      let high : labelMost < e .a → ⊥ = λ o. formed .directed (bad-label h (inr o)) in (omega arith, omega arith)
 
 module _ (s : List ℕ) where
   -- The entry read at a record without fault is well formed.
@@ -91,19 +92,19 @@ module _ (s : List ℕ) where
   unfolding entriesOf
   entries-count = entries-length s (countOf (ruleAnswer s))
 
-  accepted-clean : (a : Answer) → ruleAnswer s ≡ a → (countOf a ≤ 64) × ((i : ℕ) → i < countOf a → ruleFaults s i ≡ 0)
+  accepted-clean : (a : Answer) → ruleAnswer s ≡ a → (countOf a ≤ entriesMost) × ((i : ℕ) → i < countOf a → ruleFaults s i ≡ 0)
   accepted-clean (Accepted n) e = let r = rule-accepted-iff s n .0 e .1 in (r .1, r .0 .clean)
   accepted-clean (Refused k p) e = (omega arith, λ i l. absurd (omega arith))
 
   -- A rule has 64 entries or fewer.
-  pub entries-few : length (entriesOf s) ≤ 64
+  pub entries-few : length (entriesOf s) ≤ entriesMost
   entries-few = rw entries-count (accepted-clean (ruleAnswer s) refl .0)
 
   -- An accepted rule has an entry.
   pub entries-some : (n : ℕ) → ruleAnswer s ≡ Accepted n → 1 ≤ n
   unfolding startOf
   entries-some n e = go n (rule-accepted-iff s n .0 e .0) (rule-accepted-iff s n .0 e .1 .0) where
-    go : (m : ℕ) → Sized 512 s → Ended (ruleFaults s) s m → 1 ≤ m
+    go : (m : ℕ) → Sized ruleMost s → Ended (ruleFaults s) s m → 1 ≤ m
     go zero sized r = omega (arith, sized .some, r .at-end)
     go (suc m) sized r = omega arith
 
@@ -131,5 +132,5 @@ module _ (s : List ℕ) where
 
     -- The label of an entry of kind 2 is in 1..999.
     pub label-range : getD (entriesOf s) i noEntry .kind ≡ 2
-        → (1 ≤ getD (entriesOf s) i noEntry .a) × (getD (entriesOf s) i noEntry .a ≤ 999)
+        → (1 ≤ getD (entriesOf s) i noEntry .a) × (getD (entriesOf s) i noEntry .a ≤ labelMost)
     label-range e = formed-label i _ (entry-formed i there) e

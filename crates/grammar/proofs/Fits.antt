@@ -14,6 +14,7 @@ use Rattle.grammar.specs.Legal.{Fit, LegalLevels}
 use Rattle.grammar.specs.Reports.{Labelled}
 use Rattle.records.proofs.TagLaws.{depth-append, opened-append, levels-count}
 use Rattle.grammar.proofs.TagRows.{opens-well-iff, closes-well-iff}
+use Rattle.records.specs.Limits.{elementsMost, labelMost}
 
 -- Two sequences one after the other fit exactly where the first fits and the second fits where the first ends.
 pub fit-append : (ts us : List Tag) (d e : ℕ) → Fit d e (ts ++ us) ↔ (Fit d e ts × Fit (depthFrom d ts) (e + opened ts) us)
@@ -35,14 +36,14 @@ fit-snoc ts t =
     (λ h. (r .0 h .0, rw z at (r .0 h .1 .0)), λ h. r .1 (h .0, (rw z (h .1), tt)))
 
 -- The elements that fit are no more than 4,096.
-pub fit-few : (ts : List Tag) (d e : ℕ) → e ≤ 4096 → Fit d e ts → e + opened ts ≤ 4096
+pub fit-few : (ts : List Tag) (d e : ℕ) → e ≤ elementsMost → Fit d e ts → e + opened ts ≤ elementsMost
 unfolding Fit labels depthFrom
 fit-few [] d e l h = omega arith
 fit-few (opens a ∷ ts) d e l h =
     let w = opens-well-iff d e a .0 (h .0) in omega (arith, fit-few ts (suc d) (e + 1) (omega (arith, w .few)) (h .1))
 fit-few (closes ∷ ts) d e l h = omega (arith, fit-few ts (pred d) (e + 0) (omega arith) (h .1))
 
-labelled-cons : (l : ℕ) (ls : List ℕ) → 1 ≤ l → l ≤ 999 → Labelled ls → Labelled (l ∷ ls)
+labelled-cons : (l : ℕ) (ls : List ℕ) → 1 ≤ l → l ≤ labelMost → Labelled ls → Labelled (l ∷ ls)
 labelled-cons l ls p q h zero m = (p, q)
 labelled-cons l ls p q h (suc i) m = h i (le-of-suc-le-suc m)
 

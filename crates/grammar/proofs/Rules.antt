@@ -25,6 +25,7 @@ use Rattle.grammar.proofs.Frame.{sound-unfaulty, unfaulty-sound, start-
 use Rattle.grammar.proofs.RuleRecord.{record-length, read-length, entry-read, record-sound, record-directed, record-back}
 use Rattle.records.proofs.Rows.{row-measured}
 use Rattle.grammar.proofs.WhenRule.{fault-0-iff, rule-accepted-iff}
+use Rattle.records.specs.Limits.{entriesMost, ruleMost}
 
 rule-append : (es fs : List Entry) → ruleBytes (es ++ fs) ≡ ruleBytes es ++ ruleBytes fs
 unfolding ruleBytes
@@ -88,7 +89,7 @@ module _ (es : List Entry) (formed : (i : ℕ) → i < length es → WellFormed 
   entry-is i l = at-record (λ s at. entryAt s at ≡ nth es i) i l (entry-read (pre es i) (post es i) i (nth es i) (formed i l))
 
   -- Record i gets no number.
-  entry-clean : (i : ℕ) → i < length es → i < 64 → ruleFaults (ruleBytes es) i ≡ 0
+  entry-clean : (i : ℕ) → i < length es → i < entriesMost → ruleFaults (ruleBytes es) i ≡ 0
   entry-clean i l h =
       let sound = record-sound (pre es i) (post es i) i (nth es i) (formed i l) in
       let directed = record-directed (pre es i) (post es i) i (nth es i) (formed i l) in
@@ -111,7 +112,7 @@ module _ (es : List Entry) (formed : (i : ℕ) → i < length es → WellFormed 
   pre-short zero l = omega (arith, pre-suc 0 l, entry-shorter l)
   pre-short (suc i) l = omega (arith, pre-suc (suc i) l, entry-short (suc i) l, pre-short i (omega arith))
 
-  rule-short : 1 ≤ length es → length es ≤ 64 → length (ruleBytes es) ≤ 512
+  rule-short : 1 ≤ length es → length es ≤ entriesMost → length (ruleBytes es) ≤ ruleMost
   rule-short l h =
       let e : suc (length es - 1) ≡ length es = omega arith in
       omega (arith, rw (e, take-length es) at (pre-short (length es - 1) (omega arith)))

@@ -11,6 +11,7 @@ use Rattle.grammar.specs.When.{Outside, Mislabelled, bad-tag, Unbalanced
 use Rattle.grammar.specs.When.{too-many}
 use Rattle.grammar.proofs.Tells.{Told, fails, told-iff, ltb-told, leb-told, eqb-told, or-told, and-told}
 use Rattle.grammar.proofs.Chain.{Distinct, chain, chain-none-iff}
+use Rattle.records.specs.Limits.{elementsMost, labelMost, levelsMost}
 
 -- The test of row 6 at a tag.
 abbrev pub mislabels : Tag → Bool
@@ -24,7 +25,7 @@ unbalances d e closes = eqb d 0
 
 -- The test of row 8 at such a tag.
 abbrev pub overfills : ℕ → ℕ → Tag → Bool
-overfills d e (opens label) = leb 64 d || leb 4096 e
+overfills d e (opens label) = leb levelsMost d || leb elementsMost e
 overfills d e closes = false
 
 -- What each row says of a tag, by the tag.
@@ -37,7 +38,7 @@ BadPlace d e (opens label) = (d ≡ 0) × (0 < e)
 BadPlace d e closes = d ≡ 0
 
 abbrev BadSize : ℕ → ℕ → Tag → Type 0
-BadSize d e (opens label) = (64 ≤ d) ⊎ (4096 ≤ e)
+BadSize d e (opens label) = (levelsMost ≤ d) ⊎ (elementsMost ≤ e)
 BadSize d e closes = ⊥
 
 bad-label-of : {t : Tag} → Mislabelled t → BadLabel t
@@ -53,7 +54,7 @@ bad-size-of (too-many h) = inr h
 
 -- The test of row 6 tells it.
 pub mislabels-told : (t : Tag) → Told (Mislabelled t) (mislabels t)
-mislabels-told (opens l) = told-iff (or-told (ltb-told l 1) (ltb-told 999 l)) (bad-tag, bad-label-of)
+mislabels-told (opens l) = told-iff (or-told (ltb-told l 1) (ltb-told labelMost l)) (bad-tag, bad-label-of)
 mislabels-told closes = fails bad-label-of
 
 -- The test of row 7 tells it.
@@ -63,7 +64,7 @@ unbalances-told d e closes = told-iff (eqb-told d 0) (nothing-open, bad-place-of
 
 -- The test of row 8 tells it.
 pub overfills-told : (d e : ℕ) (t : Tag) → Told (TooMuch d e t) (overfills d e t)
-overfills-told d e (opens l) = told-iff (or-told (leb-told 64 d) (leb-told 4096 e)) (⊎-elim too-deep too-many, bad-size-of)
+overfills-told d e (opens l) = told-iff (or-told (leb-told levelsMost d) (leb-told elementsMost e)) (⊎-elim too-deep too-many, bad-size-of)
 overfills-told d e closes = fails bad-size-of
 
 -- The three numbers differ.
@@ -85,10 +86,10 @@ module _ (d e : ℕ) where
 -- What an opening meets that gets no number.
 pub record OpensWell (d e label : ℕ) : Type 0 where
   pub positive : 1 ≤ label
-  pub small : label ≤ 999
+  pub small : label ≤ labelMost
   pub root-open : d ≡ 0 → e ≡ 0
-  pub shallow : d < 64
-  pub few : e < 4096
+  pub shallow : d < levelsMost
+  pub few : e < elementsMost
 
 module _ (d e : ℕ) where
   -- An opening gets no number exactly where its label is in 1..999 and there is room for the element.
@@ -97,9 +98,9 @@ module _ (d e : ℕ) where
     well : ((Mislabelled (opens l) → ⊥) × ((Unbalanced d e (opens l) → ⊥) × (TooMuch d e (opens l) → ⊥))) → OpensWell d e l
     well h =
         let a : l < 1 → ⊥ = λ q. h .0 (bad-tag (inl q)) in
-        let b : 999 < l → ⊥ = λ q. h .0 (bad-tag (inr q)) in
-        let c : 64 ≤ d → ⊥ = λ q. h .1 .1 (too-deep q) in
-        let f : 4096 ≤ e → ⊥ = λ q. h .1 .1 (too-many q) in
+        let b : labelMost < l → ⊥ = λ q. h .0 (bad-tag (inr q)) in
+        let c : levelsMost ≤ d → ⊥ = λ q. h .1 .1 (too-deep q) in
+        let f : elementsMost ≤ e → ⊥ = λ q. h .1 .1 (too-many q) in
         record {
           positive = omega arith;
           small = omega arith;

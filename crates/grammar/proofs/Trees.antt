@@ -15,6 +15,7 @@ use Rattle.grammar.specs.Legal.{Fit, Legal}
 use Rattle.records.proofs.TagLaws.{depth-append, labels-append, opened-append}
 use Rattle.grammar.proofs.TagRows.{OpensWell, opens-well-iff, closes-well-iff}
 use Rattle.grammar.proofs.Fits.{fit-append, fit-few, fit-labelled}
+use Rattle.records.specs.Limits.{elementsMost, levelsMost}
 
 -- ---- what a tree's tags open and leave open
 
@@ -141,12 +142,12 @@ mutual
   unfolding tagsT heightT Fit depthFrom
 
   -- A tree whose tags fit where d elements are open reaches no level over 63.
-  fit-height : (t : Tree) (d e : ℕ) → d ≤ 64 → Fit d e (tagsT t) → d + heightT t ≤ 64
+  fit-height : (t : Tree) (d e : ℕ) → d ≤ levelsMost → Fit d e (tagsT t) → d + heightT t ≤ levelsMost
   fit-height (node l f) d e b h =
       let w = opens-well-iff d e l .0 (h .0) in
       omega (arith, forest-height f (suc d) _ (omega (arith, w .shallow)) (fit-append (tagsF f) (closes ∷ []) (suc d) _ .0 (h .1) .0))
 
-  forest-height : (f : Forest) (d e : ℕ) → d ≤ 64 → Fit d e (tagsF f) → d + heightF f ≤ 64
+  forest-height : (f : Forest) (d e : ℕ) → d ≤ levelsMost → Fit d e (tagsF f) → d + heightF f ≤ levelsMost
   forest-height empty d e b h = omega arith
   forest-height (_before_ t f) d e b h =
       let p = fit-append (tagsT t) (tagsF f) d e .0 h in
@@ -205,7 +206,7 @@ mutual
   unfolding tagsT heightT sizeT labels depthFrom Fit
 
   -- A tree's tags fit where there is room for its elements and levels.
-  tree-fit : (t : Tree) (d e : ℕ) → (d ≡ 0 → e ≡ 0) → d + heightT t ≤ 64 → e + sizeT t ≤ 4096 → Labelled (labels (tagsT t))
+  tree-fit : (t : Tree) (d e : ℕ) → (d ≡ 0 → e ≡ 0) → d + heightT t ≤ levelsMost → e + sizeT t ≤ elementsMost → Labelled (labels (tagsT t))
       → Fit d e (tagsT t)
   tree-fit (node l f) d e r h n m =
       let w : OpensWell d e l = record {
@@ -222,7 +223,7 @@ mutual
             (forest-fit f (suc d) (e + 1) (omega arith) (omega arith) (omega arith) g, rw (forest-depth f (suc d)) (c, tt)),
       )
 
-  forest-fit : (f : Forest) (d e : ℕ) → 1 ≤ d → d + heightF f ≤ 64 → e + sizeF f ≤ 4096 → Labelled (labels (tagsF f)) → Fit d e (tagsF f)
+  forest-fit : (f : Forest) (d e : ℕ) → 1 ≤ d → d + heightF f ≤ levelsMost → e + sizeF f ≤ elementsMost → Labelled (labels (tagsF f)) → Fit d e (tagsF f)
   forest-fit empty d e p h n m = tt
   forest-fit (_before_ t f) d e p h n m =
       let a = tree-fit t d e (λ z. absurd (omega arith)) (omega arith) (omega arith) (labels-left (tagsT t) (tagsF f) m) in

@@ -23,6 +23,7 @@ use Rattle.grammar.proofs.Decides.{answers, Decided, by-end, by-fault, 
 use Rattle.grammar.proofs.Decides.{unsized-iff, sized-iff}
 use Rattle.grammar.proofs.TagRows.{mislabels, unbalances, overfills, mislabels-told, unbalances-told, overfills-told}
 use Rattle.grammar.proofs.TagRows.{tag-fault-is, numbers-distinct}
+use Rattle.records.specs.Limits.{reportMost}
 
 -- ---- one record
 
@@ -97,14 +98,14 @@ module _ (s : List ℕ) where
   later-iff : (a : Answer) → (later ≡ a) ↔ Decided (reportFault s) s ends a
   later-iff = answer-iff (reportFault s) s reportLength (length s) clean-unfaulty capped ends
 
-  answer-is : reportAnswer s ≡ sizeFirst 5 40960 s later
+  answer-is : reportAnswer s ≡ sizeFirst 5 reportMost s later
   unfolding reportAnswer reportEnd reportStops
   answer-is = refl
 
   -- Every answer but number 5's is given exactly where the size is right and it is that of the end or of the first record at fault.
-  report-decided-iff : (a : Answer) → (Refused 5 0 ≡ a → ⊥) → (reportAnswer s ≡ a) ↔ (Sized 40960 s × Decided (reportFault s) s ends a)
+  report-decided-iff : (a : Answer) → (Refused 5 0 ≡ a → ⊥) → (reportAnswer s ≡ a) ↔ (Sized reportMost s × Decided (reportFault s) s ends a)
   report-decided-iff a n =
-      let r = sized-iff 5 40960 s _ a n in
+      let r = sized-iff 5 reportMost s _ a n in
       rw answer-is (λ e. let h = r .0 e in (h .0, later-iff a .0 (h .1)), λ h. r .1 (h .0, later-iff a .1 (h .1)))
 
   -- ---- the end
@@ -144,13 +145,13 @@ module _ (s : List ℕ) where
     row-decided (inr h) = by-end (h .1 .0) (h .1 .1) (end-refused-iff _ _ k p .1 (h .0, (h .1 .2, h .1 .3)))
 
     -- A number but 5 and 0 is given exactly where its row applies at the first record with a fault, or at the end where it is 7.
-    report-row-iff : (k ≡ 5 → ⊥) → (reportAnswer s ≡ Refused k p) ↔ (Sized 40960 s × (AtFirst s p row ⊎ ((k ≡ 7) × EndsOpen s p)))
+    report-row-iff : (k ≡ 5 → ⊥) → (reportAnswer s ≡ Refused k p) ↔ (Sized reportMost s × (AtFirst s p row ⊎ ((k ≡ 7) × EndsOpen s p)))
     report-row-iff n =
         let d = report-decided-iff (Refused k p) (λ e. n (cc)) in
         (λ e. let h = d .0 e in (h .0, decided-row (h .1)), λ h. d .1 (h .0, row-decided (h .1)))
 
     -- A number but 5, 7 and 0 is given exactly where its row applies at the first record with a fault.
-    report-record-iff : (k ≡ 5 → ⊥) → (k ≡ 7 → ⊥) → (reportAnswer s ≡ Refused k p) ↔ (Sized 40960 s × AtFirst s p row)
+    report-record-iff : (k ≡ 5 → ⊥) → (k ≡ 7 → ⊥) → (reportAnswer s ≡ Refused k p) ↔ (Sized reportMost s × AtFirst s p row)
     report-record-iff n m =
         let r = report-row-iff n in
         (λ e. let h = r .0 e in (h .0, ⊎-elim (λ a. a) (λ z. absurd (m (z .0))) (h .1)), λ h. r .1 (h .0, inl (h .1)))
@@ -165,26 +166,26 @@ module _ (s : List ℕ) where
   decided-5 p d = ⊎-elim (λ h. h .2) (λ h. omega (arith, h .0)) (decided-row 5 p (λ at d e. ⊥) never-5 (omega arith) d)
 
   -- Number 5 is given exactly to a report of 0 bytes or over 40,960, at 0.
-  pub report-5-iff : (p : ℕ) → (reportAnswer s ≡ Refused 5 p) ↔ ((p ≡ 0) × ((length s ≡ 0) ⊎ (40960 < length s)))
-  report-5-iff p = rw answer-is (unsized-iff 5 40960 s later p (λ e. decided-5 p (later-iff (Refused 5 p) .0 e)))
+  pub report-5-iff : (p : ℕ) → (reportAnswer s ≡ Refused 5 p) ↔ ((p ≡ 0) × ((length s ≡ 0) ⊎ (reportMost < length s)))
+  report-5-iff p = rw answer-is (unsized-iff 5 reportMost s later p (λ e. decided-5 p (later-iff (Refused 5 p) .0 e)))
 
   -- Number 6 is given exactly where the first record with a fault is faulty or has a label outside 1..999, where it begins.
-  pub report-6-iff : (p : ℕ) → (reportAnswer s ≡ Refused 6 p) ↔ (Sized 40960 s × AtFirst s p (λ at d e. Row6 s at))
+  pub report-6-iff : (p : ℕ) → (reportAnswer s ≡ Refused 6 p) ↔ (Sized reportMost s × AtFirst s p (λ at d e. Row6 s at))
   report-6-iff p = report-record-iff 6 p (λ at d e. Row6 s at) (record-6-iff s) (omega arith) (omega arith) (omega arith)
 
   -- Number 7 is given exactly where the first record with a fault closes with nothing open or opens after the root closed, where it
   -- begins, and where no record has a fault and the report ends with an element open, at its length.
-  pub report-7-iff : (p : ℕ) → (reportAnswer s ≡ Refused 7 p) ↔ (Sized 40960 s × (AtFirst s p (Row7 s) ⊎ EndsOpen s p))
+  pub report-7-iff : (p : ℕ) → (reportAnswer s ≡ Refused 7 p) ↔ (Sized reportMost s × (AtFirst s p (Row7 s) ⊎ EndsOpen s p))
   report-7-iff p =
       let r = report-row-iff 7 p (Row7 s) (record-7-iff s) (omega arith) (omega arith) in
       (λ e. let h = r .0 e in (h .0, ⊎-elim inl (λ z. inr (z .1)) (h .1)), λ h. r .1 (h .0, ⊎-elim inl (λ z. inr (refl, z)) (h .1)))
 
   -- Number 8 is given exactly where the first record with a fault opens at level 64 or a 4,097th element, where it begins.
-  pub report-8-iff : (p : ℕ) → (reportAnswer s ≡ Refused 8 p) ↔ (Sized 40960 s × AtFirst s p (Row8 s))
+  pub report-8-iff : (p : ℕ) → (reportAnswer s ≡ Refused 8 p) ↔ (Sized reportMost s × AtFirst s p (Row8 s))
   report-8-iff p = report-record-iff 8 p (Row8 s) (record-8-iff s) (omega arith) (omega arith) (omega arith)
 
   -- A report is accepted with n elements exactly where no record has a fault and it ends with no element open and n opened.
-  pub report-accepted-iff : (n : ℕ) → (reportAnswer s ≡ Accepted n) ↔ (Sized 40960 s × EndsWell s n)
+  pub report-accepted-iff : (n : ℕ) → (reportAnswer s ≡ Accepted n) ↔ (Sized reportMost s × EndsWell s n)
   report-accepted-iff n =
       let d = report-decided-iff (Accepted n) (λ e. let z : _≡_ {A = ℕ} 0 1 = cc in absurd (omega arith)) in
       (λ e. let h = d .0 e in (h .0, well (h .1)), λ h. d .1 (h .0, decided (h .1)))

@@ -24,6 +24,7 @@ use Rattle.grammar.proofs.Chain.{Distinct, chain-numbers, chain-first-i
 use Rattle.grammar.proofs.Decides.{Decided, by-end, by-fault, answer-iff, unsized-iff, sized-iff, size-cases}
 use Rattle.grammar.proofs.Frame.{broken-told}
 use Rattle.grammar.proofs.Tells.{Told, fails, told-iff, or-told, and-told, ltb-told, leb-told}
+use Rattle.records.specs.Limits.{entriesMost, labelMost, ruleMost}
 
 -- ---- the fault of one record
 
@@ -35,7 +36,7 @@ module _ (row : Row) (own : ℕ) (e : Entry) where
     never (bad-label l o) = let z : _≡_ {A = ℕ} 0 1 = cc in omega arith
     never (bad-a l o) = let z : _≡_ {A = ℕ} 0 1 = cc in omega arith
     never (bad-b l t o) = let z : _≡_ {A = ℕ} 0 1 = cc in omega arith
-  misdirected-told-at Label q = told-iff (or-told (ltb-told (e .a) 1) (ltb-told 999 (e .a))) (bad-label q, back) where
+  misdirected-told-at Label q = told-iff (or-told (ltb-told (e .a) 1) (ltb-told labelMost (e .a))) (bad-label q, back) where
     back : Misdirected row own e → Outside (e .a)
     back (bad-label l o) = o
     back (bad-a l o) = let z : _≡_ {A = ℕ} 0 1 = cc in absurd (omega arith)
@@ -73,34 +74,34 @@ module _ (s : List ℕ) (own at : ℕ) where
         y-z = omega arith;
       }
 
-  under : (64 ≤ own → ⊥) ↔ (own < 64)
+  under : (entriesMost ≤ own → ⊥) ↔ (own < entriesMost)
   under = (λ n. omega arith, λ l h. omega arith)
 
   -- A record gets 4 exactly where it is the 65th or a later one.
-  fault-4-iff : (ruleFault s own at ≡ 4) ↔ (64 ≤ own)
+  fault-4-iff : (ruleFault s own at ≡ 4) ↔ (entriesMost ≤ own)
   unfolding ruleFault
-  fault-4-iff = chain-first-iff 4 2 3 distinct (leb-told 64 own) broken-at misdirected-at
+  fault-4-iff = chain-first-iff 4 2 3 distinct (leb-told entriesMost own) broken-at misdirected-at
 
   -- A record gets 2 exactly where it is one of the first 64 and faulty.
-  fault-2-iff : (ruleFault s own at ≡ 2) ↔ ((own < 64) × Faulty ruleLength s at)
+  fault-2-iff : (ruleFault s own at ≡ 2) ↔ ((own < entriesMost) × Faulty ruleLength s at)
   unfolding ruleFault
-  fault-2-iff = Iff·trans (chain-second-iff 4 2 3 distinct (leb-told 64 own) broken-at misdirected-at) (Iff·and under Iff·rfl)
+  fault-2-iff = Iff·trans (chain-second-iff 4 2 3 distinct (leb-told entriesMost own) broken-at misdirected-at) (Iff·and under Iff·rfl)
 
   -- A record gets 3 exactly where it is one of the first 64, not faulty, and misdirected.
-  fault-3-iff : (ruleFault s own at ≡ 3) ↔ ((own < 64) × ((Faulty ruleLength s at → ⊥) × MisdirectedAt s own at))
+  fault-3-iff : (ruleFault s own at ≡ 3) ↔ ((own < entriesMost) × ((Faulty ruleLength s at → ⊥) × MisdirectedAt s own at))
   unfolding ruleFault
-  fault-3-iff = Iff·trans (chain-third-iff 4 2 3 distinct (leb-told 64 own) broken-at misdirected-at) (Iff·and under Iff·rfl)
+  fault-3-iff = Iff·trans (chain-third-iff 4 2 3 distinct (leb-told entriesMost own) broken-at misdirected-at) (Iff·and under Iff·rfl)
 
   -- A record gets no number exactly where none of these is so.
-  pub fault-0-iff : (ruleFault s own at ≡ 0) ↔ ((own < 64) × ((Faulty ruleLength s at → ⊥) × (MisdirectedAt s own at → ⊥)))
+  pub fault-0-iff : (ruleFault s own at ≡ 0) ↔ ((own < entriesMost) × ((Faulty ruleLength s at → ⊥) × (MisdirectedAt s own at → ⊥)))
   unfolding ruleFault
-  fault-0-iff = Iff·trans (chain-none-iff 4 2 3 distinct (leb-told 64 own) broken-at misdirected-at) (Iff·and under Iff·rfl)
+  fault-0-iff = Iff·trans (chain-none-iff 4 2 3 distinct (leb-told entriesMost own) broken-at misdirected-at) (Iff·and under Iff·rfl)
 
   -- A record at fault gets 4, 2 or 3.
   fault-numbers : (k : ℕ) → ruleFault s own at ≡ k → (k ≡ 0 → ⊥) → (k ≡ 4) ⊎ ((k ≡ 2) ⊎ (k ≡ 3))
   unfolding ruleFault
   fault-numbers k e n =
-      chain-numbers 4 2 3 (leb 64 own) (broken (frameOf s at (rowOf (kindAt s at) .length)))
+      chain-numbers 4 2 3 (leb entriesMost own) (broken (frameOf s at (rowOf (kindAt s at) .length)))
       (misdirected (rowOf (kindAt s at) .numbers) (rowOf (kindAt s at) .arguments) own (entryAt s at)) k e n
 
 -- ---- the rule's answer
@@ -109,16 +110,16 @@ module _ (s : List ℕ) where
   rule-sound : (j : ℕ) → ruleFaults s j ≡ 0 → Faulty ruleLength s (startOf s j) → ⊥
   rule-sound j e = fault-0-iff s j (startOf s j) .0 e .1 .0
 
-  rule-capped : (i : ℕ) → ((j : ℕ) → j < i → ruleFaults s j ≡ 0) → i ≤ 64
+  rule-capped : (i : ℕ) → ((j : ℕ) → j < i → ruleFaults s j ≡ 0) → i ≤ entriesMost
   rule-capped i clean =
-      elim (decLt 64 i) [
-        | yes l ↦ absurd (omega (arith, clean 64 l, fault-4-iff s 64 (startOf s 64) .1 (omega arith)))
+      elim (decLt entriesMost i) [
+        | yes l ↦ absurd (omega (arith, clean entriesMost l, fault-4-iff s entriesMost (startOf s entriesMost) .1 (omega arith)))
         | no l ↦ omega arith
       ]
 
-  later-iff : (a : Answer) → (ruleEnd s (first (ruleStops s) 64) ≡ a) ↔ Decided (ruleFaults s) s Accepted a
+  later-iff : (a : Answer) → (ruleEnd s (first (ruleStops s) entriesMost) ≡ a) ↔ Decided (ruleFaults s) s Accepted a
   unfolding ruleEnd ruleStops
-  later-iff a = answer-iff (ruleFaults s) s ruleLength 64 rule-sound (λ i clean l. rule-capped i clean) Accepted a
+  later-iff a = answer-iff (ruleFaults s) s ruleLength entriesMost rule-sound (λ i clean l. rule-capped i clean) Accepted a
 
   refused-there : (k p : ℕ) → Decided (ruleFaults s) s Accepted (Refused k p)
       → (i : ℕ) × Reached (ruleFaults s) s i p × (ruleFault s i p ≡ k)
@@ -134,10 +135,10 @@ module _ (s : List ℕ) where
 
   -- A number from 2 on is given exactly where the size is right and a record is reached that gets it.
   row-iff : (k p : ℕ) (Row : ℕ → Type 0) → 2 ≤ k → ((i : ℕ) → (ruleFault s i p ≡ k) ↔ Row i)
-      → (ruleAnswer s ≡ Refused k p) ↔ (Sized 512 s × ((i : ℕ) × Reached (ruleFaults s) s i p × Row i))
+      → (ruleAnswer s ≡ Refused k p) ↔ (Sized ruleMost s × ((i : ℕ) × Reached (ruleFaults s) s i p × Row i))
   unfolding ruleAnswer
   row-iff k p Row l rows =
-      Iff·trans (sized-iff 1 512 s _ (Refused k p) (λ e. let z : 1 ≡ k = cc in omega arith))
+      Iff·trans (sized-iff 1 ruleMost s _ (Refused k p) (λ e. let z : 1 ≡ k = cc in omega arith))
       (Iff·and Iff·rfl (Iff·trans (later-iff (Refused k p)) (
         λ d. let r = refused-there k p d in (r .0, r .1, rows (r .0) .0 (r .2)),
         λ r. refused-back k p (r .0) (λ z. omega arith) (r .1) (rows (r .0) .1 (r .2)),
@@ -148,44 +149,44 @@ module _ (s : List ℕ) where
   later-numbers k p (by-fault i q r e) = let f : ruleFaults s i ≡ k = cc in fault-numbers s i (startOf s i) k f (λ z. r .at-fault (f ∙ z))
 
   -- Row 1 is given exactly to a rule of 0 bytes or over 512, at 0.
-  pub rule-1-iff : (p : ℕ) → (ruleAnswer s ≡ Refused 1 p) ↔ ((p ≡ 0) × ((length s ≡ 0) ⊎ (512 < length s)))
+  pub rule-1-iff : (p : ℕ) → (ruleAnswer s ≡ Refused 1 p) ↔ ((p ≡ 0) × ((length s ≡ 0) ⊎ (ruleMost < length s)))
   unfolding ruleAnswer
-  rule-1-iff p = unsized-iff 1 512 s _ p (λ e. never (later-numbers 1 p (later-iff (Refused 1 p) .0 e))) where
+  rule-1-iff p = unsized-iff 1 ruleMost s _ p (λ e. never (later-numbers 1 p (later-iff (Refused 1 p) .0 e))) where
     never : (_≡_ {A = ℕ} 1 4) ⊎ ((_≡_ {A = ℕ} 1 2) ⊎ (_≡_ {A = ℕ} 1 3)) → ⊥
     never h = elim h [ inl z ↦ omega arith | inr h2 ↦ elim h2 [ inl z ↦ omega arith | inr z ↦ omega arith ] ]
 
   -- Row 2 is given exactly at the first record at fault, where it is one of the first 64 and faulty.
   pub rule-2-iff : (p : ℕ)
-      → (ruleAnswer s ≡ Refused 2 p) ↔ (Sized 512 s × ((i : ℕ) × Reached (ruleFaults s) s i p × ((i < 64) × Faulty ruleLength s p)))
+      → (ruleAnswer s ≡ Refused 2 p) ↔ (Sized ruleMost s × ((i : ℕ) × Reached (ruleFaults s) s i p × ((i < entriesMost) × Faulty ruleLength s p)))
   rule-2-iff p = row-iff 2 p _ (omega arith) (λ i. fault-2-iff s i p)
 
   -- Row 3 is given exactly at the first record at fault, where it is one of the first 64, not faulty, and misdirected.
   pub rule-3-iff : (p : ℕ) → (ruleAnswer s ≡ Refused 3 p)
-      ↔ (Sized 512 s × ((i : ℕ) × Reached (ruleFaults s) s i p × ((i < 64) × ((Faulty ruleLength s p → ⊥) × MisdirectedAt s i p))))
+      ↔ (Sized ruleMost s × ((i : ℕ) × Reached (ruleFaults s) s i p × ((i < entriesMost) × ((Faulty ruleLength s p → ⊥) × MisdirectedAt s i p))))
   rule-3-iff p = row-iff 3 p _ (omega arith) (λ i. fault-3-iff s i p)
 
   -- Row 4 is given exactly where a 65th record begins after 64 without fault, and there.
-  pub rule-4-iff : (p : ℕ) → (ruleAnswer s ≡ Refused 4 p) ↔ (Sized 512 s × Reached (ruleFaults s) s 64 p)
+  pub rule-4-iff : (p : ℕ) → (ruleAnswer s ≡ Refused 4 p) ↔ (Sized ruleMost s × Reached (ruleFaults s) s entriesMost p)
   rule-4-iff p =
       Iff·trans (row-iff 4 p _ (omega arith) (λ i. fault-4-iff s i p)) (Iff·and Iff·rfl (
-        λ r. let e : r .0 ≡ 64 = omega (arith, rule-capped (r .0) (r .1 .clean), r .2) in
+        λ r. let e : r .0 ≡ entriesMost = omega (arith, rule-capped (r .0) (r .1 .clean), r .2) in
             subst (λ (i : ℕ). Reached (ruleFaults s) s i p) e (r .1),
-        λ r. (64, r, omega arith),
+        λ r. (entriesMost, r, omega arith),
       ))
 
   -- A rule is accepted exactly where its size is right and it ends after its entries, 64 or fewer, none of them at fault.
-  pub rule-accepted-iff : (n : ℕ) → (ruleAnswer s ≡ Accepted n) ↔ (Sized 512 s × (Ended (ruleFaults s) s n × (n ≤ 64)))
+  pub rule-accepted-iff : (n : ℕ) → (ruleAnswer s ≡ Accepted n) ↔ (Sized ruleMost s × (Ended (ruleFaults s) s n × (n ≤ entriesMost)))
   unfolding ruleAnswer
   rule-accepted-iff n =
-      Iff·trans (sized-iff 1 512 s _ (Accepted n) (λ e. let z : _≡_ {A = ℕ} 0 1 = cc in omega arith))
+      Iff·trans (sized-iff 1 ruleMost s _ (Accepted n) (λ e. let z : _≡_ {A = ℕ} 0 1 = cc in omega arith))
       (Iff·and Iff·rfl (Iff·trans (later-iff (Accepted n)) (there, λ r. by-end n (r .0) refl))) where
-        there : Decided (ruleFaults s) s Accepted (Accepted n) → Ended (ruleFaults s) s n × (n ≤ 64)
+        there : Decided (ruleFaults s) s Accepted (Accepted n) → Ended (ruleFaults s) s n × (n ≤ entriesMost)
         there (by-end i r e) = let same : i ≡ n = cc in let q = subst (Ended (ruleFaults s) s) same r in (q, rule-capped n (q .clean))
         there (by-fault i p r e) = let z : _≡_ {A = ℕ} 0 1 = cc in absurd (omega arith)
 
   refused-cases : (k p : ℕ) → ruleAnswer s ≡ Refused k p → (Refused 1 0 ≡ Refused k p) ⊎ Decided (ruleFaults s) s Accepted (Refused k p)
   unfolding ruleAnswer
-  refused-cases k p e = elim (size-cases 1 512 s _ (Refused k p) e) [ inl q ↦ inl q | inr q ↦ inr (later-iff (Refused k p) .0 q) ]
+  refused-cases k p e = elim (size-cases 1 ruleMost s _ (Refused k p) e) [ inl q ↦ inl q | inr q ↦ inr (later-iff (Refused k p) .0 q) ]
 
   -- A rule is refused with no number but 1, 2, 3 and 4.
   pub rule-numbers : (k p : ℕ) → ruleAnswer s ≡ Refused k p → (k ≡ 1) ⊎ ((k ≡ 2) ⊎ ((k ≡ 3) ⊎ (k ≡ 4)))

@@ -24,6 +24,7 @@ use Rattle.text.specs.Text.{refusedLine}
 use Rattle.judge.specs.Input.{ruleEnd, ruleIn, reportIn}
 use Rattle.judge.specs.Output.{room, toldAs, judgedRecord, splitRecord, recordOf}
 use Rattle.judge.proofs.SplitLaws.{split-long, split-fits}
+use Rattle.records.specs.Limits.{reportMost, ruleMost}
 
 -- ---- what a refusal is told as
 
@@ -41,7 +42,7 @@ module _ (rule report : List ℕ) where
       (⊎-elim (λ t. omega arith) (⊎-elim (λ t. omega arith) (⊎-elim (λ t. omega arith) (λ t. omega arith))) (rule-numbers rule k p e))
 
   -- A report that is too long is told so, where the rule is accepted.
-  pub report-long-told : (m : ℕ) → ruleAnswer rule ≡ Accepted m → 40960 < length report → judgedRecord rule report ≡ refusedLine 5 0
+  pub report-long-told : (m : ℕ) → ruleAnswer rule ≡ Accepted m → reportMost < length report → judgedRecord rule report ≡ refusedLine 5 0
   unfolding judgedRecord evaluation judged
   report-long-told m e h =
       let count = selected (length (entriesOf rule)) (meantWords rule report) in
@@ -50,11 +51,11 @@ module _ (rule report : List ℕ) where
       ∙ refused-told 5 0 (omega arith)
 
   -- A rule that is too long is told so, whatever it is.
-  pub rule-long-told : 512 < length rule → judgedRecord rule report ≡ refusedLine 1 0
+  pub rule-long-told : ruleMost < length rule → judgedRecord rule report ≡ refusedLine 1 0
   rule-long-told h = rule-refused-told 1 0 (rule-1-iff rule 0 .1 (refl, inr h))
 
 -- With one rule, two reports that are too long have the same record.
-pub long-reports-same : (rule report report′ : List ℕ) → 40960 < length report → 40960 < length report′
+pub long-reports-same : (rule report report′ : List ℕ) → reportMost < length report → reportMost < length report′
     → judgedRecord rule report ≡ judgedRecord rule report′
 long-reports-same rule report report′ h h′ = go (ruleAnswer rule) refl
   where
@@ -108,7 +109,7 @@ read-enough s rest n =
         ap (take (ruleEnd s - 2)) (drop-append-le 2 s rest (omega arith))
         ∙ take-append-le (ruleEnd s - 2) (drop 2 s) rest (rw (length-drop 2 s) (omega arith))
 
-    long : (l : List ℕ) → 65536 ≤ length l → ruleEnd s ≤ 514 → 40960 < length (reportIn l (ruleEnd s))
+    long : (l : List ℕ) → 65536 ≤ length l → ruleEnd s ≤ 514 → reportMost < length (reportIn l (ruleEnd s))
     long l h k = rw (length-drop (ruleEnd s) l) (omega arith)
 
     same : ruleEnd s ≤ 514 → judgedRecord (ruleIn s (ruleEnd s)) (reportIn s (ruleEnd s))

@@ -31,6 +31,7 @@ use Rattle.evaluate.proofs.Means.{counted, word-is}
 use Rattle.text.specs.Text.{lineOf, elementLines, acceptedLines, acceptedText, headerLine, closingLine, refusedLine}
 use Rattle.text.specs.Rendered.{verdictIn, clamped, tableText, putAt, Rendered}
 use Rattle.judge.specs.Output.{room, acceptedRecord, toldAs, judgedRecord, AcceptedWith}
+use Rattle.records.specs.Limits.{elementsMost}
 
 -- ---- lines that agree
 
@@ -102,13 +103,13 @@ pub last-known : (rule report marks : List ℕ) (elements chosen : ℕ) (r : Rul
 last-known rule report marks elements chosen r a e =
     ap (λ (k : ℕ). k - 1) (entries-known rule report marks elements chosen r a e .1) ∙ pred-sub (length (entriesOf rule))
 
-clamped-few : (n : ℕ) → n ≤ 4096 → clamped n ≡ n
+clamped-few : (n : ℕ) → n ≤ elementsMost → clamped n ≡ n
 unfolding clamped
-clamped-few n h = rw (le-ltb 4096 n h)
+clamped-few n h = rw (le-ltb elementsMost n h)
 
 module _ (rule report marks labels levels labels₁ levels₁ : List ℕ) (elements chosen last : ℕ)
     (a : AcceptedWith rule report marks elements chosen) {answer : Answer} (taken : ElementsTaken report labels levels answer labels₁ levels₁)
-    (labels-long : length labels ≡ 4096) (levels-long : length levels ≡ 4096)
+    (labels-long : length labels ≡ elementsMost) (levels-long : length levels ≡ elementsMost)
     (last-is : last ≡ pred (length (entriesOf rule))) where
   labels-are : labels₁ ≡ over (labelsOf report) labels
   labels-are = rw (taken-lists report (a .report-taken) .0) at (taken .labels-are)
@@ -116,7 +117,7 @@ module _ (rule report marks labels levels labels₁ levels₁ : List ℕ) (eleme
   levels-are : levels₁ ≡ over (levelsOf report) levels
   levels-are = rw (taken-lists report (a .report-taken) .1) at (taken .levels-are)
 
-  few : length (levelsOf report) ≤ 4096
+  few : length (levelsOf report) ≤ elementsMost
   few = rw (levels-elements report) (elements-few report)
 
   line-is : (k : ℕ) → k < length (levelsOf report)

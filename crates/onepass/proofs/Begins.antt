@@ -20,6 +20,7 @@ use Rattle.grammar.proofs.ReportBytes.{tags-back, tags-are, accepted-tree, tree
 use Rattle.grammar.proofs.TagRows.{opens-well-iff, closes-well-iff}
 use Rattle.grammar.proofs.Trees.{bytes-append, legal-tree}
 use Rattle.onepass.specs.Calls.{Begins}
+use Rattle.records.specs.Limits.{labelMost}
 
 -- ---- the tags of such a report
 
@@ -67,7 +68,7 @@ two-bytes n h zero = mod-lt n (omega arith)
 two-bytes n h (suc zero) = omega arith
 two-bytes n h (suc (suc i)) = omega arith
 
-opens-bytes : (l : ℕ) → l ≤ 999 → Bytes (tagBytes (opens l))
+opens-bytes : (l : ℕ) → l ≤ labelMost → Bytes (tagBytes (opens l))
 unfolding tagBytes
 opens-bytes l h =
     append-bytes (twoBytes 4) _ (two-bytes 4 (omega arith)) (append-bytes (twoBytes 1) _ (two-bytes 1 (omega arith)) (two-bytes l (omega arith)))

@@ -9,25 +9,25 @@ use borrow.Author.Tests.{eq-eqb, ne-eqb}
 use lib.Bits.{bitOr, or-shifted-r}
 use lib.Dec.{eqb}
 use lib.Pow.{pow-pos, pow-add, high, low, split, shl-exact, shr-shr, field, mod-mod-pow}
-use Rattle.meaning.specs.Marks.{bit, bitAt}
+use Rattle.meaning.specs.Marks.{bit, bitAt, wordBits}
 use Rattle.meaning.proofs.Words.{bit-small, word-lt, word-bit, word-only}
 use Rattle.onepass.specs.Bytes.{withBit}
 
 -- A bit added above i bits, as the machine adds it.
-pub add-bit-is : (i w : ℕ) (on : Bool) → i < 64 → w < 2 ^ i → bitOr w ((bit on * 2 ^ i) % 2 ^ 64) ≡ bit on * 2 ^ i + w
-add-bit-is i w on h l = rw (shl-exact 1 i 64 (bit-small on) (omega arith)) (or-shifted-r (bit on) i w l)
+pub add-bit-is : (i w : ℕ) (on : Bool) → i < wordBits → w < 2 ^ i → bitOr w ((bit on * 2 ^ i) % 2 ^ wordBits) ≡ bit on * 2 ^ i + w
+add-bit-is i w on h l = rw (shl-exact 1 i wordBits (bit-small on) (omega arith)) (or-shifted-r (bit on) i w l)
 
 -- ---- a bit put to a value
 
 -- The word is one of 64 bits.
-pub with-bit-small : (i w : ℕ) (on : Bool) → withBit i on w < 2 ^ 64
+pub with-bit-small : (i w : ℕ) (on : Bool) → withBit i on w < 2 ^ wordBits
 unfolding withBit
-with-bit-small i w on = word-lt 64 _
+with-bit-small i w on = word-lt wordBits _
 
 -- Bit i is what it is put to, and every other bit stays.
-pub with-bit-at : (i w : ℕ) (on : Bool) (j : ℕ) → j < 64 → bitAt (withBit i on w) j ≡ cond (eqb j i) on (bitAt w j)
+pub with-bit-at : (i w : ℕ) (on : Bool) (j : ℕ) → j < wordBits → bitAt (withBit i on w) j ≡ cond (eqb j i) on (bitAt w j)
 unfolding withBit
-with-bit-at i w on j l = word-bit 64 j _ l
+with-bit-at i w on j l = word-bit wordBits j _ l
 
 -- ---- the machine's way: h above bit i, l below it
 
@@ -73,15 +73,15 @@ module _ (i h l : ℕ) (small : l < 2 ^ i) where
       bit-told true = refl
       bit-told false = refl
 
-  around-small : (b x : ℕ) → b < 2 → x < 2 → i < 64 → around b < 2 ^ 64 → around x < 2 ^ 64
+  around-small : (b x : ℕ) → b < 2 → x < 2 → i < wordBits → around b < 2 ^ wordBits → around x < 2 ^ wordBits
   around-small b x lb lx li small′ =
-      let e : 63 - i + (i + (1 + 0)) ≡ 64 = omega arith in
-      let p : 2 ^ 64 ≡ 2 ^ (63 - i) * 2 ^ (i + (1 + 0)) = ap (λ (n : ℕ). 2 ^ n) (sym e) ∙ pow-add 2 (63 - i) (i + (1 + 0)) in
+      let e : 63 - i + (i + (1 + 0)) ≡ wordBits = omega arith in
+      let p : 2 ^ wordBits ≡ 2 ^ (63 - i) * 2 ^ (i + (1 + 0)) = ap (λ (n : ℕ). 2 ^ n) (sym e) ∙ pow-add 2 (63 - i) (i + (1 + 0)) in
       let q = div-lt-iff-lt-mul (pow-pos (i + (1 + 0))) .1 (rw p at small′) in
       rw p (div-lt-iff-lt-mul (pow-pos (i + (1 + 0))) .0 (rw (around-high x 0 lx, ← around-high b 0 lb) q))
 
 -- The word that the machine works out: bit i taken out, and put in anew.
-module _ (i w : ℕ) (on : Bool) (li : i < 64) (small : w < 2 ^ 64) where
+module _ (i w : ℕ) (on : Bool) (li : i < wordBits) (small : w < 2 ^ wordBits) where
   abbrev b : ℕ
   b = w / 2 ^ i % 2
 
@@ -101,20 +101,20 @@ module _ (i w : ℕ) (on : Bool) (li : i < 64) (small : w < 2 ^ 64) where
   l-small = mod-lt w (pow-pos i)
 
   -- The bit taken out is no more than the word.
-  pub out-le : (w / 2 ^ i % 2 * 2 ^ i) % 2 ^ 64 ≤ w
-  out-le = rw (shl-exact 1 i 64 b-small (omega arith)) (omega (arith, word-around, add-mul (h * 2) b (2 ^ i)))
+  pub out-le : (w / 2 ^ i % 2 * 2 ^ i) % 2 ^ wordBits ≤ w
+  out-le = rw (shl-exact 1 i wordBits b-small (omega arith)) (omega (arith, word-around, add-mul (h * 2) b (2 ^ i)))
 
   -- The bit taken out and put in anew is the bit put to a value.
-  pub with-bit-machine : w - (w / 2 ^ i % 2 * 2 ^ i) % 2 ^ 64 + (bit on * 2 ^ i) % 2 ^ 64 ≡ withBit i on w
+  pub with-bit-machine : w - (w / 2 ^ i % 2 * 2 ^ i) % 2 ^ wordBits + (bit on * 2 ^ i) % 2 ^ wordBits ≡ withBit i on w
   unfolding withBit
   with-bit-machine =
-      rw (shl-exact 1 i 64 b-small (omega arith), shl-exact 1 i 64 (bit-small on) (omega arith))
-      (put ∙ word-only 64 _ (λ j. cond (eqb j i) on (bitAt w j)) (around-small i h l l-small b (bit on) b-small (bit-small on) li (rw word-around small))
+      rw (shl-exact 1 i wordBits b-small (omega arith), shl-exact 1 i wordBits (bit-small on) (omega arith))
+      (put ∙ word-only wordBits _ (λ j. cond (eqb j i) on (bitAt w j)) (around-small i h l l-small b (bit on) b-small (bit-small on) li (rw word-around small))
       (λ j m. around-bits i h l l-small b on j b-small ∙ rw word-around))
     where
       put : w - b * 2 ^ i + bit on * 2 ^ i ≡ (h * 2 + bit on) * 2 ^ i + l
       put = omega (arith, word-around, add-mul (h * 2) b (2 ^ i), add-mul (h * 2) (bit on) (2 ^ i))
 
   -- It is one of 64 bits.
-  pub with-bit-room : w - (w / 2 ^ i % 2 * 2 ^ i) % 2 ^ 64 + (bit on * 2 ^ i) % 2 ^ 64 < 2 ^ 64
+  pub with-bit-room : w - (w / 2 ^ i % 2 * 2 ^ i) % 2 ^ wordBits + (bit on * 2 ^ i) % 2 ^ wordBits < 2 ^ wordBits
   with-bit-room = rw with-bit-machine (with-bit-small i w on)

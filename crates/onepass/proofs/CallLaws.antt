@@ -14,7 +14,7 @@ use Rattle.records.specs.declared.rule.Entry.{Entry}
 use Rattle.records.specs.Tags.{Tag, opens, closes, outside, tagFault}
 use Rattle.records.proofs.ReportLaws.{open-sound, close-sound}
 use Rattle.grammar.specs.Bytes.{Bytes}
-use Rattle.meaning.specs.Marks.{bit, bitAt}
+use Rattle.meaning.specs.Marks.{bit, bitAt, wordBits}
 use Rattle.meaning.specs.OnePass.{State, fault, stepWord, openedWord, openedVerdict, opened, closed, after}
 use Rattle.onepass.specs.Bytes.{wordAt}
 use Rattle.onepass.specs.State.{depthIn, elementsIn, rootIn, presenceIn, openPlace, lastPlace, stateOf, bad, Good}
@@ -25,6 +25,7 @@ use Rattle.onepass.proofs.StepLaws.{step-small}
 use Rattle.onepass.proofs.StateLaws.{state-same, good-iff, listed-at, parent-read, sibling-read, opened-depth, opened-elements}
 use Rattle.onepass.proofs.StateLaws.{opened-root, opened-spare, opened-open, opened-last, opened-presence, closed-depth}
 use Rattle.onepass.proofs.StateLaws.{closed-elements, closed-root, closed-spare, closed-last, closed-open, closed-presence}
+use Rattle.records.specs.Limits.{elementsMost, levelsMost}
 
 -- ---- when a call is taken
 
@@ -63,7 +64,7 @@ module _ (es : List Entry) (s : List ℕ) where
   closed-is z = record { answer = rw z; state-is = rw z }
 
   -- The word of an opening, from the words that are read of the bytes.
-  pub opened-read : (l p q : ℕ) → depthIn s < 64 → p ≡ cond (eqb (depthIn s) 0) 0 (wordAt 8 s (openPlace (pred (depthIn s))))
+  pub opened-read : (l p q : ℕ) → depthIn s < levelsMost → p ≡ cond (eqb (depthIn s) 0) 0 (wordAt 8 s (openPlace (pred (depthIn s))))
       → q ≡ cond (bitAt (presenceIn s) (depthIn s)) (wordAt 8 s (lastPlace (depthIn s))) 0
       → stepWord es l p q (length es) ≡ openedWord es (stateOf s) l
   unfolding openedWord
@@ -74,7 +75,7 @@ module _ (es : List Entry) (s : List ℕ) where
 -- An opening that is taken finds the root open.
 open-unshut : (d e l : ℕ) (c : Bool) → tagFault d e c (opens l) ≡ 0 → c ≡ false
 unfolding tagFault
-open-unshut d e l c z = go (outside l) c (leb 64 d || leb 4096 e) z where
+open-unshut d e l c z = go (outside l) c (leb levelsMost d || leb elementsMost e) z where
   go : (o q p : Bool) → _≡_ {A = ℕ} (cond o 6 (cond q 7 (cond p 8 0))) 0 → q ≡ false
   go true q p r = absurd (omega arith)
   go false true p r = absurd (omega arith)
@@ -82,7 +83,7 @@ open-unshut d e l c z = go (outside l) c (leb 64 d || leb 4096 e) z where
 
 module _ (s : List ℕ) where
   -- An opening that is taken finds a level and an element left, and the root open.
-  pub opens-room : (l : ℕ) → fault (stateOf s) (opens l) ≡ 0 → (depthIn s < 64) × (elementsIn s < 4096) × (rootIn s ≡ 1 → ⊥)
+  pub opens-room : (l : ℕ) → fault (stateOf s) (opens l) ≡ 0 → (depthIn s < levelsMost) × (elementsIn s < elementsMost) × (rootIn s ≡ 1 → ⊥)
   unfolding stateOf
   opens-room l z =
       let r = open-sound (depthIn s) (elementsIn s) l _ z in
@@ -95,7 +96,7 @@ module _ (s : List ℕ) where
 
 -- ---- the state after it
 
-word-room : (es : List Entry) (st : State) (l : ℕ) → length es ≤ 64 → openedWord es st l < 2 ^ 64
+word-room : (es : List Entry) (st : State) (l : ℕ) → length es ≤ levelsMost → openedWord es st l < 2 ^ wordBits
 unfolding openedWord
 word-room es st l h = lt-of-lt-of-le (step-small es l _ _ (length es)) (pow-mono h)
 
@@ -147,7 +148,7 @@ root-after : (b : Bool) (r : ℕ) → eqb (cond b 1 r) 1 ≡ cond b true (eqb r 
 root-after true r = refl
 root-after false r = refl
 
-module _ (es : List Entry) (s : List ℕ) (few : length es ≤ 64) (good : Good s) where
+module _ (es : List Entry) (s : List ℕ) (few : length es ≤ levelsMost) (good : Good s) where
   -- The bytes after an opening that is taken are the opened state.
   opened-state : (l : ℕ) → fault (stateOf s) (opens l) ≡ 0 → stateOf (written es s (opens l)) ≡ opened es (stateOf s) l
   unfolding stateOf opened written
@@ -166,11 +167,11 @@ module _ (es : List Entry) (s : List ℕ) (few : length es ≤ 64) (good : Good 
   closed-state bytes z =
       let d = pred (depthIn s) in
       let r = closes-room s z in
-      let h : d < 64 = omega (arith, good .shallow) in
+      let h : d < levelsMost = omega (arith, good .shallow) in
       state-same (closed-depth d s (good .long) h) (closed-elements d s (good .long) h)
       (ap (λ (x : ℕ). eqb x 1) (closed-root d s (good .long) h) ∙ root-after (eqb d 0) (rootIn s))
       (closed-presence d s (good .long) h) (closed-open d s (good .long) h)
-      (rw (listed-at 64 (λ i. wordAt 8 s (openPlace i)) d 0 h) (closed-last d s (good .long) h (word-small 8 s bytes (openPlace d))))
+      (rw (listed-at levelsMost (λ i. wordAt 8 s (openPlace i)) d 0 h) (closed-last d s (good .long) h (word-small 8 s bytes (openPlace d))))
 
   -- So the bytes after a tag that is taken are the state after it.
   pub written-state : Bytes s → (t : Tag) → fault (stateOf s) t ≡ 0 → stateOf (written es s t) ≡ after es (stateOf s) t
@@ -200,7 +201,7 @@ module _ (es : List Entry) (s : List ℕ) (few : length es ≤ 64) (good : Good 
   written-good closes z =
       let k = pred (depthIn s) in
       let r = closes-room s z in
-      let h : k < 64 = omega (arith, good .shallow) in
+      let h : k < levelsMost = omega (arith, good .shallow) in
       let d = closed-depth k s (good .long) h in
       let e = closed-elements k s (good .long) h in
       let f = closed-root k s (good .long) h in

@@ -29,6 +29,7 @@ use Rattle.onepass.specs.declared.export.StepReply.{StepReply}
 use Rattle.meaning.proofs.Words.{pred-sub}
 use Rattle.onepass.proofs.StateLaws.{good-iff}
 use Rattle.onepass.proofs.CallLaws.{call-taken, opened-is, closed-is, opened-read, opens-room, closes-room}
+use Rattle.records.specs.Limits.{elementsMost, entriesMost, levelsMost, ruleMost}
 
 -- ---- start
 
@@ -69,14 +70,14 @@ module _ (es : List Entry) (s : List ℕ) (t : Tag) (a b : Bool) (ahead : a ≡ 
 
 module _ (es : List Entry) (s : List ℕ) (k : ℕ) where
   -- What an opening that is taken may read and write.
-  pub opens-fine : (l : ℕ) → k ≡ callNumber es s (opens l) → k ≡ 0 → (length s ≡ stateSize) × (depthIn s < 64) × (elementsIn s < 4096)
+  pub opens-fine : (l : ℕ) → k ≡ callNumber es s (opens l) → k ≡ 0 → (length s ≡ stateSize) × (depthIn s < levelsMost) × (elementsIn s < elementsMost)
   opens-fine l e z =
       let r = call-taken es s (opens l) (sym e ∙ z) .1 in
       let q = opens-room s l (r .1) in
       (r .0 .long, q .0, q .1)
 
   -- What a closing that is taken may.
-  pub closes-fine : k ≡ callNumber es s closes → k ≡ 0 → (length s ≡ stateSize) × (0 < depthIn s) × (depthIn s ≤ 64)
+  pub closes-fine : k ≡ callNumber es s closes → k ≡ 0 → (length s ≡ stateSize) × (0 < depthIn s) × (depthIn s ≤ levelsMost)
   closes-fine e z = let r = call-taken es s closes (sym e ∙ z) .1 in (r .0 .long, closes-room s (r .1), r .0 .shallow)
 
   -- An opening that is taken, with its word.
@@ -124,12 +125,12 @@ some-entries false = ([], refl)
 some-entries true = (record { kind = 6; a = 0; b = 0 } ∷ [], refl)
 
 -- An accepted rule has 1 to 64 entries.
-pub accepted-range : (rule : List ℕ) (r : Answer) (n : ℕ) → r ≡ ruleAnswer rule → r ≡ Accepted n → (1 ≤ n) × (n ≤ 64)
+pub accepted-range : (rule : List ℕ) (r : Answer) (n : ℕ) → r ≡ ruleAnswer rule → r ≡ Accepted n → (1 ≤ n) × (n ≤ entriesMost)
 accepted-range rule r n e f =
     let a = sym e ∙ f in (entries-some rule n a, omega (arith, rule-small rule .count-in, ap countOf a))
 
 -- The place of a refused rule fits 32 bits.
-pub refused-place : (rule : List ℕ) (r : Answer) (k p : ℕ) → r ≡ ruleAnswer rule → r ≡ Refused k p → p ≤ 512
+pub refused-place : (rule : List ℕ) (r : Answer) (k p : ℕ) → r ≡ ruleAnswer rule → r ≡ Refused k p → p ≤ ruleMost
 refused-place rule r k p e f = omega (arith, rule-small rule .place-in, ap placeOf (sym e ∙ f))
 
 module _ (rule s : List ℕ) (t : Tag) where

@@ -16,13 +16,14 @@ use lib.Seq.{ext-getD, getD-set-same, getD-set-other}
 use Rattle.records.specs.declared.rule.Entry.{Entry}
 use Rattle.grammar.specs.Bytes.{Bytes}
 use Rattle.grammar.proofs.Tells.{Told, false-iff, told-stable, eqb-told, ltb-told, not-told, or-told, and-told}
-use Rattle.meaning.specs.Marks.{bitAt}
+use Rattle.meaning.specs.Marks.{bitAt, wordBits}
 use Rattle.meaning.specs.OnePass.{State, fresh, parentWord, siblingWord}
 use Rattle.onepass.specs.Bytes.{wordAt, putAt, withBit}
 use Rattle.onepass.specs.State.{stateSize, depthIn, elementsIn, rootIn, presenceIn, openPlace, lastPlace, listed, stateOf, bad, Good}
 use Rattle.onepass.specs.Step.{cleared, openedBytes, marked, rooted, closedBytes}
 use Rattle.onepass.proofs.ByteLaws.{put-length, word-other, word-put}
 use Rattle.onepass.proofs.BitLaws.{with-bit-small, with-bit-at}
+use Rattle.records.specs.Limits.{elementsMost, levelsMost}
 
 -- Two states with the same parts are one.
 pub state-same : {d d′ e e′ : ℕ} {r r′ : Bool} {p p′ : List Bool} {o o′ l l′ : List ℕ} → d ≡ d′ → e ≡ e′ → r ≡ r′ → p ≡ p′ → o ≡ o′ → l ≡ l′
@@ -34,14 +35,14 @@ state-same a b c d e f = rw (a, b, c, d, e, f)
 
 abbrev Bad : List ℕ → Type 0
 Bad s = (length s ≡ stateSize → ⊥)
-    ⊎ ((((((64 < depthIn s) ⊎ (elementsIn s < depthIn s)) ⊎ (4096 < elementsIn s)) ⊎ (1 < rootIn s))
+    ⊎ ((((((levelsMost < depthIn s) ⊎ (elementsIn s < depthIn s)) ⊎ (elementsMost < elementsIn s)) ⊎ (1 < rootIn s))
     ⊎ ((rootIn s ≡ 1) × (depthIn s ≡ 0 → ⊥))) ⊎ (((getD s 6 0 ≡ 0) × (getD s 7 0 ≡ 0)) → ⊥))
 
 bad-told : (s : List ℕ) → Told (Bad s) (bad s)
 unfolding bad
 bad-told s =
     or-told (not-told (eqb-told (length s) stateSize))
-    (or-told (or-told (or-told (or-told (or-told (ltb-told 64 (depthIn s)) (ltb-told (elementsIn s) (depthIn s))) (ltb-told 4096 (elementsIn s)))
+    (or-told (or-told (or-told (or-told (or-told (ltb-told levelsMost (depthIn s)) (ltb-told (elementsIn s) (depthIn s))) (ltb-told elementsMost (elementsIn s)))
     (ltb-told 1 (rootIn s))) (and-told (eqb-told (rootIn s) 1) (not-told (eqb-told (depthIn s) 0))))
     (not-told (and-told (eqb-told (getD s 6 0) 0) (eqb-told (getD s 7 0) 0))))
 
@@ -50,9 +51,9 @@ pub good-iff : (s : List ℕ) → (bad s ≡ false) ↔ Good s
 good-iff s = (λ e. good (false-iff (bad-told s) .0 e), λ g. false-iff (bad-told s) .1 (fair g)) where
   good : (Bad s → ⊥) → Good s
   good n =
-      let a : 64 < depthIn s → ⊥ = λ q. n (inr (inl (inl (inl (inl (inl q)))))) in
+      let a : levelsMost < depthIn s → ⊥ = λ q. n (inr (inl (inl (inl (inl (inl q)))))) in
       let b : elementsIn s < depthIn s → ⊥ = λ q. n (inr (inl (inl (inl (inl (inr q)))))) in
-      let c : 4096 < elementsIn s → ⊥ = λ q. n (inr (inl (inl (inl (inr q))))) in
+      let c : elementsMost < elementsIn s → ⊥ = λ q. n (inr (inl (inl (inl (inr q))))) in
       let d : 1 < rootIn s → ⊥ = λ q. n (inr (inl (inl (inr q)))) in
       record {
         long = told-stable (eqb-told (length s) stateSize) (λ q. n (inl q));
@@ -118,29 +119,29 @@ module _ {A : Type 0} where
       at i m (no q) = h i m q ∙ sym (getD-set-other (listed n f) k i v v q ∙ listed-at n f i v m)
 
 -- The bits of a word with one bit put to a value.
-with-bit-listed : (i w : ℕ) (on : Bool) → i < 64 → listed 64 (bitAt (withBit i on w)) ≡ set (listed 64 (bitAt w)) i on
+with-bit-listed : (i w : ℕ) (on : Bool) → i < levelsMost → listed levelsMost (bitAt (withBit i on w)) ≡ set (listed levelsMost (bitAt w)) i on
 with-bit-listed i w on l =
-    listed-set 64 (bitAt w) (bitAt (withBit i on w)) i on l (with-bit-at i w on i l ∙ rw (eq-eqb i i refl))
+    listed-set levelsMost (bitAt w) (bitAt (withBit i on w)) i on l (with-bit-at i w on i l ∙ rw (eq-eqb i i refl))
     (λ j m n. with-bit-at i w on j m ∙ rw (ne-eqb j i n))
 
 -- ---- what an opening reads
 
-open-picked : (d : ℕ) (f : ℕ → ℕ) → d ≤ 64 → cond (eqb d 0) 0 (getD (listed 64 f) (pred d) 0) ≡ cond (eqb d 0) 0 (f (pred d))
+open-picked : (d : ℕ) (f : ℕ → ℕ) → d ≤ levelsMost → cond (eqb d 0) 0 (getD (listed levelsMost f) (pred d) 0) ≡ cond (eqb d 0) 0 (f (pred d))
 open-picked zero f l = refl
-open-picked (suc d) f l = rw (listed-at 64 f d 0 l)
+open-picked (suc d) f l = rw (listed-at levelsMost f d 0 l)
 
 module _ (es : List Entry) (s : List ℕ) where
   -- The parent's word is open word d - 1 of the bytes, and 0 where there is none.
-  pub parent-read : depthIn s ≤ 64 → parentWord es (stateOf s) ≡ cond (eqb (depthIn s) 0) 0 (wordAt 8 s (openPlace (pred (depthIn s))))
+  pub parent-read : depthIn s ≤ levelsMost → parentWord es (stateOf s) ≡ cond (eqb (depthIn s) 0) 0 (wordAt 8 s (openPlace (pred (depthIn s))))
   unfolding stateOf
   parent-read l = open-picked (depthIn s) (λ i. wordAt 8 s (openPlace i)) l
 
   -- The previous sibling's is last word d, and 0 where presence bit d is.
-  pub sibling-read : depthIn s < 64
+  pub sibling-read : depthIn s < levelsMost
       → siblingWord es (stateOf s) ≡ cond (bitAt (presenceIn s) (depthIn s)) (wordAt 8 s (lastPlace (depthIn s))) 0
   unfolding stateOf
   sibling-read l =
-      rw (listed-at 64 (bitAt (presenceIn s)) (depthIn s) false l, listed-at 64 (λ i. wordAt 8 s (lastPlace i)) (depthIn s) 0 l)
+      rw (listed-at levelsMost (bitAt (presenceIn s)) (depthIn s) false l, listed-at levelsMost (λ i. wordAt 8 s (lastPlace i)) (depthIn s) 0 l)
 
 -- ---- start
 
@@ -159,9 +160,9 @@ pub zeros-fresh : (n : ℕ) → stateOf (replicate n 0) ≡ fresh
 unfolding stateOf
 zeros-fresh n =
     state-same (zeros-word _ n _) (zeros-word _ n _) (ap (λ (x : ℕ). eqb x 1) (zeros-word _ n _))
-    (listed-all 64 (bitAt (presenceIn (replicate n 0))) false (λ i. rw (zeros-word 8 n 8, zero-div)))
-    (listed-all 64 (λ i. wordAt 8 (replicate n 0) (openPlace i)) 0 (λ i. zeros-word _ n _))
-    (listed-all 64 (λ i. wordAt 8 (replicate n 0) (lastPlace i)) 0 (λ i. zeros-word _ n _))
+    (listed-all levelsMost (bitAt (presenceIn (replicate n 0))) false (λ i. rw (zeros-word 8 n 8, zero-div)))
+    (listed-all levelsMost (λ i. wordAt 8 (replicate n 0) (openPlace i)) 0 (λ i. zeros-word _ n _))
+    (listed-all levelsMost (λ i. wordAt 8 (replicate n 0) (lastPlace i)) 0 (λ i. zeros-word _ n _))
 
 -- 1,040 of them pass the test.
 pub zeros-good : Good (replicate stateSize 0)
@@ -185,7 +186,7 @@ zeros-bytes n i = omega (arith, zeros-at n i)
 
 -- ---- opening
 
-module _ (d e w : ℕ) (s : List ℕ) (long : length s ≡ stateSize) (ld : d < 64) (le : e < 4096) where
+module _ (d e w : ℕ) (s : List ℕ) (long : length s ≡ stateSize) (ld : d < levelsMost) (le : e < elementsMost) where
   -- The bytes after the first store, and after the second.
   abbrev stored : List ℕ
   stored = putAt 8 (openPlace d) w s
@@ -245,28 +246,28 @@ module _ (d e w : ℕ) (s : List ℕ) (long : length s ≡ stateSize) (ld : d < 
       let h = opened-kept 1 p (omega arith) (λ i a b q r. omega arith) (λ i a b q r. omega arith) in omega (arith, h)
 
   -- Open word d is the word, and every other open word stays.
-  pub opened-open : (w < 2 ^ 64) → listed 64 (λ i. wordAt 8 (openedBytes d e w s) (openPlace i)) ≡ set (listed 64 (λ i. wordAt 8 s (openPlace i))) d w
+  pub opened-open : (w < 2 ^ wordBits) → listed levelsMost (λ i. wordAt 8 (openedBytes d e w s) (openPlace i)) ≡ set (listed levelsMost (λ i. wordAt 8 s (openPlace i))) d w
   opened-open small =
-      listed-set 64 (λ i. wordAt 8 s (openPlace i)) (λ i. wordAt 8 (openedBytes d e w s) (openPlace i)) d w ld
+      listed-set levelsMost (λ i. wordAt 8 s (openPlace i)) (λ i. wordAt 8 (openedBytes d e w s) (openPlace i)) d w ld
       (opened-head 8 (openPlace d) (omega arith) ∙ shown-other 8 (openPlace d) (λ i a b q r. omega arith)
       ∙ word-put 8 (openPlace d) w s (omega (arith, long)) small)
       (λ i l n. opened-kept 8 (openPlace i) (omega arith) (λ k a b q r. omega arith) (λ k a b q r. n (omega arith)))
 
   -- Last words stay.
-  pub opened-last : listed 64 (λ i. wordAt 8 (openedBytes d e w s) (lastPlace i)) ≡ listed 64 (λ i. wordAt 8 s (lastPlace i))
-  opened-last = listed-same 64 _ _ (λ i l. opened-kept 8 (lastPlace i) (omega arith) (λ k a b q r. omega arith) (λ k a b q r. omega arith))
+  pub opened-last : listed levelsMost (λ i. wordAt 8 (openedBytes d e w s) (lastPlace i)) ≡ listed levelsMost (λ i. wordAt 8 s (lastPlace i))
+  opened-last = listed-same levelsMost _ _ (λ i l. opened-kept 8 (lastPlace i) (omega arith) (λ k a b q r. omega arith) (λ k a b q r. omega arith))
 
   presence-stored : presenceIn stored ≡ presenceIn s
   presence-stored = word-other 8 8 8 (openPlace d) w s (λ i a b q r. omega arith)
 
   -- Presence bit d + 1 is cleared if d is under 63, and every other presence bit stays.
-  pub opened-presence : listed 64 (bitAt (presenceIn (openedBytes d e w s)))
-      ≡ cond (ltb d 63) (set (listed 64 (bitAt (presenceIn s))) (suc d) false) (listed 64 (bitAt (presenceIn s)))
+  pub opened-presence : listed levelsMost (bitAt (presenceIn (openedBytes d e w s)))
+      ≡ cond (ltb d 63) (set (listed levelsMost (bitAt (presenceIn s))) (suc d) false) (listed levelsMost (bitAt (presenceIn s)))
   unfolding cleared
-  opened-presence = ap (λ (x : ℕ). listed 64 (bitAt x)) (opened-head 8 8 (omega arith)) ∙ go (ltb d 63) refl where
+  opened-presence = ap (λ (x : ℕ). listed levelsMost (bitAt x)) (opened-head 8 8 (omega arith)) ∙ go (ltb d 63) refl where
     go : (b : Bool) → ltb d 63 ≡ b
-        → listed 64 (bitAt (presenceIn (cond b (putAt 8 8 (withBit (d + 1) false (presenceIn stored)) stored) stored)))
-        ≡ cond b (set (listed 64 (bitAt (presenceIn s))) (suc d) false) (listed 64 (bitAt (presenceIn s)))
+        → listed levelsMost (bitAt (presenceIn (cond b (putAt 8 8 (withBit (d + 1) false (presenceIn stored)) stored) stored)))
+        ≡ cond b (set (listed levelsMost (bitAt (presenceIn s))) (suc d) false) (listed levelsMost (bitAt (presenceIn s)))
     go true q =
         let l = ltb-true d 63 q in
         rw (word-put 8 8 (withBit (d + 1) false (presenceIn stored)) stored (omega (arith, stored-long)) (with-bit-small (d + 1) _ false), presence-stored, add-one d)
@@ -275,7 +276,7 @@ module _ (d e w : ℕ) (s : List ℕ) (long : length s ≡ stateSize) (ld : d < 
 
 -- ---- closing
 
-module _ (d : ℕ) (s : List ℕ) (long : length s ≡ stateSize) (ld : d < 64) where
+module _ (d : ℕ) (s : List ℕ) (long : length s ≡ stateSize) (ld : d < levelsMost) where
   -- The bytes after the first store, after the second, and after the third.
   abbrev copied : List ℕ
   copied = putAt 8 (lastPlace d) (wordAt 8 s (openPlace d)) s
@@ -337,20 +338,20 @@ module _ (d : ℕ) (s : List ℕ) (long : length s ≡ stateSize) (ld : d < 64) 
       let h = closed-kept 1 p (omega arith) (λ i a b q r. omega arith) (λ i a b q r. omega arith) in omega (arith, h)
 
   -- Last word d is open word d, and every other last word stays.
-  pub closed-last : wordAt 8 s (openPlace d) < 2 ^ 64
-      → listed 64 (λ i. wordAt 8 (closedBytes d s) (lastPlace i)) ≡ set (listed 64 (λ i. wordAt 8 s (lastPlace i))) d (wordAt 8 s (openPlace d))
+  pub closed-last : wordAt 8 s (openPlace d) < 2 ^ wordBits
+      → listed levelsMost (λ i. wordAt 8 (closedBytes d s) (lastPlace i)) ≡ set (listed levelsMost (λ i. wordAt 8 s (lastPlace i))) d (wordAt 8 s (openPlace d))
   closed-last small =
-      listed-set 64 (λ i. wordAt 8 s (lastPlace i)) (λ i. wordAt 8 (closedBytes d s) (lastPlace i)) d _ ld
+      listed-set levelsMost (λ i. wordAt 8 s (lastPlace i)) (λ i. wordAt 8 (closedBytes d s) (lastPlace i)) d _ ld
       (closed-noted 8 (lastPlace d) (omega arith) ∙ word-other 8 (lastPlace d) 8 8 _ copied (λ i a b q r. omega arith)
       ∙ word-put 8 (lastPlace d) _ s (omega (arith, long)) small)
       (λ i l n. closed-kept 8 (lastPlace i) (omega arith) (λ k a b q r. omega arith) (λ k a b q r. n (omega arith)))
 
   -- Open words stay.
-  pub closed-open : listed 64 (λ i. wordAt 8 (closedBytes d s) (openPlace i)) ≡ listed 64 (λ i. wordAt 8 s (openPlace i))
-  closed-open = listed-same 64 _ _ (λ i l. closed-kept 8 (openPlace i) (omega arith) (λ k a b q r. omega arith) (λ k a b q r. omega arith))
+  pub closed-open : listed levelsMost (λ i. wordAt 8 (closedBytes d s) (openPlace i)) ≡ listed levelsMost (λ i. wordAt 8 s (openPlace i))
+  closed-open = listed-same levelsMost _ _ (λ i l. closed-kept 8 (openPlace i) (omega arith) (λ k a b q r. omega arith) (λ k a b q r. omega arith))
 
   -- Presence bit d is set, and every other presence bit stays.
-  pub closed-presence : listed 64 (bitAt (presenceIn (closedBytes d s))) ≡ set (listed 64 (bitAt (presenceIn s))) d true
+  pub closed-presence : listed levelsMost (bitAt (presenceIn (closedBytes d s))) ≡ set (listed levelsMost (bitAt (presenceIn s))) d true
   closed-presence =
       let e = word-other 8 8 8 (lastPlace d) (wordAt 8 s (openPlace d)) s (λ i a b q r. omega arith) in
       let f = closed-noted 8 8 (omega arith)

@@ -22,6 +22,7 @@ use Rattle.meaning.specs.OnePass.{stepBit, stepWord}
 use Rattle.onepass.specs.Step.{looksAhead}
 use Rattle.onepass.specs.Walk.{Walked, unreadWalk, Asked, unaskedAhead}
 use Rattle.onepass.proofs.StepLaws.{ahead-more}
+use Rattle.records.specs.Limits.{entriesMost}
 
 -- Entries behind the first m play no part in their word.
 step-prefix : (es fs : List Entry) (label p q m : ℕ) → m ≤ length es → stepWord (es ++ fs) label p q m ≡ stepWord es label p q m
@@ -37,7 +38,7 @@ last-entry (x ∷ es) e = last-entry es e
 -- Between two turns.
 pub record StepMid (s : List ℕ) (label p q i at : ℕ) (ahead : Bool) (w : ℕ) : Type 0 where
   pub mid : RuleMid s i at
-  pub few : i ≤ 64
+  pub few : i ≤ entriesMost
   pub ahead-so : ahead ≡ looksAhead (entriesBefore s i)
   pub word-so : w ≡ stepWord (entriesBefore s i) label p q i
 
@@ -74,7 +75,7 @@ walk-none s label p q r a = record { answer-is = a; ahead-is = rw r; word-is = r
 -- The same without a step.
 pub record AskMid (s : List ℕ) (i at : ℕ) (ahead : Bool) : Type 0 where
   pub mid : RuleMid s i at
-  pub few : i ≤ 64
+  pub few : i ≤ entriesMost
   pub ahead-so : ahead ≡ looksAhead (entriesBefore s i)
 
 pub ask-none : (s : List ℕ) → entriesRead s ≡ [] → Refused 1 0 ≡ ruleAnswer s → Asked s unaskedAhead

@@ -29,6 +29,7 @@ use Rattle.parse.specs.declared.begins.Start.the-variants as S
 use Rattle.parse.specs.Promises.{headOf, WordAt, OrAt, NumberAt, Lettered, LettersAt, BeginsAt, NamedAt, AxisAt, While, Opens, StartAt, noteTest}
 use Rattle.parse.specs.Rows.{formOf, leafTree, testEntries, testBytes}
 use Rattle.parse.proofs.WordLaws.{front}
+use Rattle.records.specs.Limits.{labelMost}
 
 -- `or`
 or-words : (w : Bool) (K : List Expected) (s : List ℕ) → run w (alternative ∷ K) s ≡ run w (spelt (gap w ++ orWord) K) s
@@ -86,7 +87,7 @@ module _ (s : List ℕ) (at : ℕ) where
   unfolding run next choices pick isWord isDigit ascii
   label-goes r K = refl
 
-  label-is : (n : ℕ) (r t : List ℕ) → 1 ≤ n → n ≤ 999 → Reads false number r true t → r ≡ decimal n ++ t → Lettered (ascii "label " ++ r) t n
+  label-is : (n : ℕ) (r t : List ℕ) → 1 ≤ n → n ≤ labelMost → Reads false number r true t → r ≡ decimal n ++ t → Lettered (ascii "label " ++ r) t n
   unfolding ascii ahead piecesT GoodT leafTree
   label-is zero r t l m k q = absurd (omega arith)
   label-is (suc n) r t l m k q = record { goes = λ K. label-goes r K ∙ k K; good = (l, m); is = λ w. rw q }

@@ -14,6 +14,7 @@ use Rattle.paths.proofs.Count.{weightT, table-count}
 use Rattle.parse.specs.Rows.{noRows, noteRow, formOf, testEntries, entriesT, entriesP, entriesS, noteT, noteP, noteS, Row, HeldT, HeldP, HeldS}
 use Rattle.parse.proofs.TreeLaws.{step-own}
 use Rattle.parse.proofs.PartLaws.{entries-few}
+use Rattle.records.specs.Limits.{entriesMost}
 
 -- ---- rows that stay
 
@@ -67,19 +68,19 @@ stores-first v vs l i h = stores-below vs (set l i v) (suc i) i (omega arith) �
 module _ (rows : List ℕ) (n form a b : ℕ) where
   row-length : length (noteRow rows n form a b) ≡ length rows
   unfolding noteRow
-  row-length = go (leb n 64) where
+  row-length = go (leb n entriesMost) where
     go : (p : Bool) → length (cond p (sets rows (3 * n - 3) (form ∷ a ∷ b ∷ [])) rows) ≡ length rows
     go true = length-sets rows (3 * n - 3) (form ∷ a ∷ b ∷ [])
     go false = refl
 
   row-below : (m : ℕ) → m < n → Same rows (noteRow rows n form a b) m
   unfolding noteRow
-  row-below m l i h = go (leb n 64) where
+  row-below m l i h = go (leb n entriesMost) where
     go : (p : Bool) → getD (cond p (sets rows (3 * n - 3) (form ∷ a ∷ b ∷ [])) rows) i 0 ≡ getD rows i 0
     go true = stores-below (form ∷ a ∷ b ∷ []) rows (3 * n - 3) i (omega arith)
     go false = refl
 
-  row-there : 1 ≤ n → n ≤ 64 → length rows ≡ 192 → Row (noteRow rows n form a b) n form a b
+  row-there : 1 ≤ n → n ≤ entriesMost → length rows ≡ 192 → Row (noteRow rows n form a b) n form a b
   unfolding noteRow
   row-there l m e =
       let i = 3 * n - 3 in
@@ -87,7 +88,7 @@ module _ (rows : List ℕ) (n form a b : ℕ) where
       let last : 3 * n - 1 ≡ suc (suc i) = omega arith in
       let one = length-set rows i form in
       let two = length-set (set rows i form) (suc i) a in
-      rw (le-leb n 64 m)
+      rw (le-leb n entriesMost m)
       (record {
         there = l;
         is-form = stores-first form (a ∷ b ∷ []) rows i (omega arith);
@@ -170,7 +171,7 @@ path-some (only st) = omega (arith, step-above st 0)
 path-some (_then_ st p) = omega (arith, path-some p)
 
 -- A step's row filled behind its test, which stays held.
-tested : (st : Step) (t : Test) (n a b : ℕ) (mid : List ℕ) → a < n → n ≤ 64 → length mid ≡ 192 → HeldT mid t a
+tested : (st : Step) (t : Test) (n a b : ℕ) (mid : List ℕ) → a < n → n ≤ entriesMost → length mid ≡ 192 → HeldT mid t a
     → (let after = noteRow mid n (formOf st) a b in (c : ℕ) × (c < n) × Row after n (formOf st) c b × HeldT after t c)
 tested st t n a b mid l m e x =
     (a, l, row-there mid n (formOf st) a b (omega arith) m e, kept mid _ t a (row-below mid n (formOf st) a b a l) x)
@@ -179,7 +180,7 @@ mutual
   unfolding noteT HeldT weightT testEntries
 
   -- A noted test is held in the row of its last entry.
-  held : (t : Test) (k n : ℕ) (rows : List ℕ) → n ≡ k + entriesT t → n ≤ 64 → length rows ≡ 192 → HeldT (noteT t k rows) t n
+  held : (t : Test) (k n : ℕ) (rows : List ℕ) → n ≡ k + entriesT t → n ≤ entriesMost → length rows ≡ 192 → HeldT (noteT t k rows) t n
   held everywhere k n rows q m e = rw q (row-there rows (k + 1) 1 0 0 (omega arith) (omega arith) e)
   held (labelled l) k n rows q m e = rw q (row-there rows (k + 1) 2 l 0 (omega arith) (omega arith) e)
   held (except t) k n rows q m e =
@@ -210,7 +211,7 @@ mutual
       )
   held (begins p) k n rows q m e = held-path p (k + 1) n 0 rows (omega arith) m e
 
-  held-path : (p : Path) (k n b : ℕ) (rows : List ℕ) → n ≡ k + entriesP p → n ≤ 64 → length rows ≡ 192 → HeldP (noteP p k b rows) p n b
+  held-path : (p : Path) (k n b : ℕ) (rows : List ℕ) → n ≡ k + entriesP p → n ≤ entriesMost → length rows ≡ 192 → HeldP (noteP p k b rows) p n b
   held-path (only st) k n b rows q m e = rw q (held-step st k b rows (omega arith) e)
   held-path (_then_ st p) k n b rows q m e =
       let mid = noteS st k b rows in
@@ -223,7 +224,7 @@ mutual
       )
 
   -- A noted step is held in the row of its last entry.
-  held-step : (st : Step) (k b : ℕ) (rows : List ℕ) → k + entriesS st ≤ 64 → length rows ≡ 192 → HeldS (noteS st k b rows) st (k + entriesS st) b
+  held-step : (st : Step) (k b : ℕ) (rows : List ℕ) → k + entriesS st ≤ entriesMost → length rows ≡ 192 → HeldS (noteS st k b rows) st (k + entriesS st) b
   held-step (along x) k b rows m e =
       (k + 0, row-there rows (k + entriesS (along x)) (formOf (along x)) (k + 0) b (omega (arith, step-above (along x) k)) m e)
   held-step (along* x) k b rows m e =
@@ -236,5 +237,5 @@ mutual
       tested (while x t) t _ (k + entriesT t) b (noteT t k rows) l m (test-length t k rows ∙ e) (held t k (k + entriesT t) rows refl (omega arith) e)
 
 -- The rows of a text with 64 entries or fewer hold its tree in the row of its last entry.
-pub text-held : (t : Test) (n : ℕ) (rows : List ℕ) → n ≡ length (tableOf t) → n ≤ 64 → rows ≡ noteT t 0 noRows → HeldT rows t n
+pub text-held : (t : Test) (n : ℕ) (rows : List ℕ) → n ≡ length (tableOf t) → n ≤ entriesMost → rows ≡ noteT t 0 noRows → HeldT rows t n
 text-held t n rows q m e = rw e (held t 0 n noRows (omega (arith, q, table-count t)) m (length-replicate {A = ℕ} 192 0))

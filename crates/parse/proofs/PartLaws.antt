@@ -15,6 +15,8 @@ use Rattle.parse.specs.declared.tree.Parsed.{Parsed}
 use Rattle.parse.specs.declared.tree.Parsed.the-variants.{Done, Bad}
 use Rattle.parse.specs.Rows.{noteRow, formEntries, formBytes, leafTree, noteT}
 use Rattle.parse.specs.Promises.{WordAt, leafBytes, Small, Shut, Closing, Excepted, EitherOf, StepOf}
+use Rattle.records.specs.Limits.{entriesMost}
+use Rattle.paths.specs.Answer.{textMost}
 
 -- ---- forms and rows
 
@@ -77,21 +79,21 @@ module _ (form : ℕ) where
     go false false false false = omega arith
 
 module _ (rows : List ℕ) (n form a b : ℕ) where
-  pub row-filled : n ≤ 64 → set (set (set rows (3 * n - 3) form) (3 * n - 3 + 1) a) (3 * n - 3 + 2) b ≡ noteRow rows n form a b
+  pub row-filled : n ≤ entriesMost → set (set (set rows (3 * n - 3) form) (3 * n - 3 + 1) a) (3 * n - 3 + 2) b ≡ noteRow rows n form a b
   unfolding noteRow
   row-filled l =
       let i = 3 * n - 3 in
       let next : i + 1 ≡ suc i = add-one i in
-      let last : i + 2 ≡ suc (suc i) = omega arith in rw (le-leb n 64 l, next, last)
+      let last : i + 2 ≡ suc (suc i) = omega arith in rw (le-leb n entriesMost l, next, last)
 
-  pub row-none : 64 < n → rows ≡ noteRow rows n form a b
+  pub row-none : entriesMost < n → rows ≡ noteRow rows n form a b
   unfolding noteRow
-  row-none l = rw (lt-leb n 64 l)
+  row-none l = rw (lt-leb n entriesMost l)
 
 -- ---- parts
 
 -- The numbers of a part that was read are small.
-pub small-of : (p : Parsed) (e : ℕ) (v : Bool) (n b : ℕ) → p ≡ Done e v n b → Small p → (n ≤ 1024) × (b ≤ 8192)
+pub small-of : (p : Parsed) (e : ℕ) (v : Bool) (n b : ℕ) → p ≡ Done e v n b → Small p → (n ≤ textMost) × (b ≤ 8192)
 small-of p e v n b q h = rw q at h
 
 module _ (e label k : ℕ) (rows after : List ℕ) where

@@ -11,7 +11,7 @@ use lib.ListN.{length, take, drop, drop-of-length-le, length-drop, length-take, 
 use Rattle.grammar.specs.When.{Sized}
 use Rattle.paths.specs.Syntax.{Test}
 use Rattle.paths.specs.Spelling.{piecesT, textOf, Text, StopsAt}
-use Rattle.paths.specs.Answer.{TextOf, Gets, bad-size, no-text, too-many, no-room, taken}
+use Rattle.paths.specs.Answer.{TextOf, Gets, bad-size, no-text, too-many, no-room, taken, textMost}
 use Rattle.paths.proofs.Machine.{test, run, next, stopped}
 use Rattle.paths.proofs.Ahead.{spell-ahead}
 use Rattle.paths.proofs.Count.{table-count, table-bytes}
@@ -70,24 +70,24 @@ or-false : (a b : Bool) → (a || b) ≡ false → (a ≡ false) × (b ≡ false
 or-false false b e = (refl, e)
 or-false true b e = let z : _≡_ {A = ℕ} 0 1 = cc in absurd (omega arith)
 
-pub sized-so : (s : List ℕ) → (eqb (length s) 0 || ltb 1024 (length s)) ≡ false → Sized 1024 s
+pub sized-so : (s : List ℕ) → (eqb (length s) 0 || ltb textMost (length s)) ≡ false → Sized textMost s
 sized-so s e =
     let (a, b) = or-false _ _ e in
-    record { some = go (length s) (eqb-false (length s) 0 a); few = ltb-false 1024 (length s) b } where
+    record { some = go (length s) (eqb-false (length s) 0 a); few = ltb-false textMost (length s) b } where
       go : (n : ℕ) → (n ≡ 0 → ⊥) → 1 ≤ n
       go zero h = absurd (h refl)
       go (suc n) h = omega arith
 
-not-sized : (s : List ℕ) → (eqb (length s) 0 || ltb 1024 (length s)) ≡ true → Sized 1024 s → ⊥
+not-sized : (s : List ℕ) → (eqb (length s) 0 || ltb textMost (length s)) ≡ true → Sized textMost s → ⊥
 not-sized s e z = go (eqb (length s) 0) refl e where
-  go : (a : Bool) → eqb (length s) 0 ≡ a → (a || ltb 1024 (length s)) ≡ true → ⊥
+  go : (a : Bool) → eqb (length s) 0 ≡ a → (a || ltb textMost (length s)) ≡ true → ⊥
   go true i e = omega (arith, eqb-true (length s) 0 i, z .some)
-  go false i e = omega (arith, ltb-true 1024 (length s) e, z .few)
+  go false i e = omega (arith, ltb-true textMost (length s) e, z .few)
 
-pub tree-size : (s : List ℕ) → (eqb (length s) 0 || ltb 1024 (length s)) ≡ true → TreeRead s (O.Stopped 0) noRows
+pub tree-size : (s : List ℕ) → (eqb (length s) 0 || ltb textMost (length s)) ≡ true → TreeRead s (O.Stopped 0) noRows
 tree-size s e = (λ room. bad-size (not-sized s e), refl)
 
-module _ (s : List ℕ) (z : Sized 1024 s) (o : Outcome) (rows : List ℕ) (x : Read s noRows o rows) where
+module _ (s : List ℕ) (z : Sized textMost s) (o : Outcome) (rows : List ℕ) (x : Read s noRows o rows) where
   pub tree-text : (n b : ℕ) → o ≡ O.Text n b → TreeRead s (O.Text n b) rows
   tree-text n b e =
       let y : Read s noRows (O.Text n b) rows = rw e at x in

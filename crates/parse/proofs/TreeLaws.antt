@@ -26,15 +26,16 @@ use Rattle.parse.specs.Rows.{noteRow, formOf, formEntries, formBytes, le
 use Rattle.parse.specs.Promises.{headOf, OrAt, LeafAt, BeginsAt, StartAt, leafBytes, Small, Ends, Shut, Closing, Excepted, EitherOf, StepOf, noteTest, StepReads, TestParsed, PathParsed, StepParsed, Went}
 use Rattle.parse.proofs.WordLaws.{front}
 use Rattle.parse.proofs.PartLaws.{entries-few, bytes-few}
+use Rattle.paths.specs.Answer.{textMost}
 
 -- ---- what a caller needs of a part: its counts are small, it ends within the bytes
 
 module _ (s : List ℕ) (at k : ℕ) (rows : List ℕ) where
-  pub test-small : (w : Bool) (p : Parsed) (after : List ℕ) → length s ≤ 1024 → TestParsed w s at k rows p after → Small p
+  pub test-small : (w : Bool) (p : Parsed) (after : List ℕ) → length s ≤ textMost → TestParsed w s at k rows p after → Small p
   test-small w (Done e v n b) after l (f, g, t) = (omega arith, omega arith)
   test-small w (Bad q) after l h = tt
 
-  pub path-small : (p : Parsed) (after : List ℕ) → length s ≤ 1024 → PathParsed s at k rows p after → Small p
+  pub path-small : (p : Parsed) (after : List ℕ) → length s ≤ textMost → PathParsed s at k rows p after → Small p
   path-small (Done e v n b) after l (f, i, g, t) = (omega arith, omega arith)
   path-small (Bad q) after l h = tt
 
@@ -46,7 +47,7 @@ module _ (s : List ℕ) (at k : ℕ) (rows : List ℕ) where
   either-ends w (Done e v j c) r mid after m n b (f, g, t) (i, h) = rw i (f .within)
   either-ends w (Bad q) r mid after m n b x i = rw i tt
 
-  pub shut-small : (w : Bool) (x : List ℕ) (p r : Parsed) (after : List ℕ) → length s ≤ 1024 → TestParsed w s at k rows p after → Shut x s p r → Small r
+  pub shut-small : (w : Bool) (x : List ℕ) (p r : Parsed) (after : List ℕ) → length s ≤ textMost → TestParsed w s at k rows p after → Shut x s p r → Small r
   shut-small w x (Done e v n b) r after l (f, g, t) (At q, h, i) = rw i (omega arith, omega arith)
   shut-small w x (Done e v n b) r after l (f, g, t) (Missing q, h, i) = rw i tt
   shut-small w x (Bad q) r after l h i = rw i tt

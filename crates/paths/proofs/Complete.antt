@@ -16,6 +16,7 @@ use Rattle.paths.specs.Syntax.{Test, everywhere, labelled, except, eithe
 use Rattle.paths.specs.Spelling.{Sign, opening, closing, less, greater, slash, question, star, Piece, word, sign, axisWord, trueWord, labelWord, notWord, orWord, piecesT, piecesP, piecesS, signByte, gap, textOf}
 use Rattle.paths.proofs.Ahead.{wordyT, wordyS, ahead, spell-ahead}
 use Rattle.paths.proofs.Machine.{Expected, byte, test, alternative, number, twoDigits, oneDigit, path, axis, afterAxis, afterStep, isDigit, isWord, choices, pick, next, ended, whole, run}
+use Rattle.records.specs.Limits.{labelMost}
 
 -- The bytes begin with no digit.
 unfoldable pub NoDigit : List ℕ → Type 0
@@ -69,7 +70,7 @@ module _ (K : List Expected) where
   third-digit d s l = rw (digit-is d l, digit-word d l)
 
   -- A number in 1..999 in front of what is no digit.
-  run-number : (n : ℕ) (s : List ℕ) → NoDigit s → 1 ≤ n → n ≤ 999 → run false (number ∷ K) (decimal n ++ s) ≡ run true K s
+  run-number : (n : ℕ) (s : List ℕ) → NoDigit s → 1 ≤ n → n ≤ labelMost → run false (number ∷ K) (decimal n ++ s) ≡ run true K s
   run-number n s h m l =
       elim (decLt n 10) [
         | yes a ↦ rw (decimal-one n a) (first-digit n s m a ∙ two-over s h)

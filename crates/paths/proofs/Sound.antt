@@ -17,11 +17,12 @@ use Rattle.paths.specs.Syntax.{Test, everywhere, labelled, except, eithe
 use Rattle.paths.specs.Spelling.{closing, greater, slash, star, word, sign, axisWord, orWord, piecesT, piecesP, piecesS, signByte, gap, textOf, Text}
 use Rattle.paths.proofs.Machine.{Expected, byte, test, lettered, alternative, number, twoDigits, oneDigit, path, axis, afterAxis, afterStep, isDigit, isWord, Choice, letters, axes, goingOn, choices, pick, next, ended, whole, stopped, onward, run}
 use Rattle.paths.proofs.Ahead.{wordyT, ahead, spell-ahead, ahead-test, ahead-step}
+use Rattle.records.specs.Limits.{labelMost}
 
 -- ---- what a stack stands for
 
 abbrev Label : ℕ → Type 0
-Label n = (1 ≤ n) × (n ≤ 999)
+Label n = (1 ≤ n) × (n ≤ labelMost)
 
 -- The bytes are a path's, with its `>`, and then r.
 abbrev Way : Path → (s r : List ℕ) → Type 0

@@ -22,6 +22,7 @@ use Rattle.records.proofs.Reading.{stops-not, mid-reached}
 use Rattle.records.proofs.RuleLaws.{rule-sound}
 use Rattle.records.proofs.TagLaws.{opened-append}
 use Rattle.records.proofs.ReportLaws.{record-sound, open-sound}
+use Rattle.records.specs.Limits.{elementsMost, entriesMost, reportMost, ruleMost}
 
 -- The place is at most `size`, and the count at most `most`.
 pub record Within (size most : ℕ) (a : Answer) : Type 0 where
@@ -53,38 +54,38 @@ within-size size limit most number a w = go (ltb size 1) (ltb limit size) refl
 
 module _ (s : List ℕ) where
   -- The record at which reading a rule stops begins within the rule.
-  rule-stop : startOf s (first (ruleStops s) 64) ≤ length s
+  rule-stop : startOf s (first (ruleStops s) entriesMost) ≤ length s
   unfolding ruleStops
   rule-stop =
       mid-reached s (ruleFaults s)
       (λ i f. let r = rule-sound s i (startOf s i) f .1 in omega (arith, r .ends, r .long))
-      (first (ruleStops s) 64) (first-before (ruleStops s) 64)
+      (first (ruleStops s) entriesMost) (first-before (ruleStops s) entriesMost)
       .within
 
-  rule-end-within : Within (length s) 64 (ruleEnd s (first (ruleStops s) 64))
+  rule-end-within : Within (length s) entriesMost (ruleEnd s (first (ruleStops s) entriesMost))
   unfolding ruleEnd
   rule-end-within =
-      within-either (length s) 64 _ _ (eqb (startOf s (first (ruleStops s) 64)) (length s))
-      (accepted-within (length s) 64 (first (ruleStops s) 64) (first-le (ruleStops s) 64))
-      (refused-within (length s) 64 (ruleFaults s (first (ruleStops s) 64)) (startOf s (first (ruleStops s) 64)) rule-stop)
+      within-either (length s) entriesMost _ _ (eqb (startOf s (first (ruleStops s) entriesMost)) (length s))
+      (accepted-within (length s) entriesMost (first (ruleStops s) entriesMost) (first-le (ruleStops s) entriesMost))
+      (refused-within (length s) entriesMost (ruleFaults s (first (ruleStops s) entriesMost)) (startOf s (first (ruleStops s) entriesMost)) rule-stop)
 
   -- A rule's answer has its place within the rule, and counts at most 64 entries.
-  pub rule-within : Within (length s) 64 (ruleAnswer s)
+  pub rule-within : Within (length s) entriesMost (ruleAnswer s)
   unfolding ruleAnswer
   rule-within =
-      within-either (length s) 64 _ _ (ltb (length s) 1 || ltb 512 (length s))
-      (refused-within (length s) 64 1 0 (omega arith)) rule-end-within
+      within-either (length s) entriesMost _ _ (ltb (length s) 1 || ltb ruleMost (length s))
+      (refused-within (length s) entriesMost 1 0 (omega arith)) rule-end-within
 
   -- And its place is at most 512.
-  pub rule-small : Within 512 64 (ruleAnswer s)
+  pub rule-small : Within ruleMost entriesMost (ruleAnswer s)
   unfolding ruleAnswer
-  rule-small = within-size (length s) 512 64 1 _ rule-end-within
+  rule-small = within-size (length s) ruleMost entriesMost 1 _ rule-end-within
 
 -- ---- a report
 
 module _ (s : List ℕ) where
   -- Records with no fault open at most 4,096 elements.
-  opened-few : (i : ℕ) → ((j : ℕ) → j < i → reportStops s j ≡ false) → opened (tagsBefore s i) ≤ 4096
+  opened-few : (i : ℕ) → ((j : ℕ) → j < i → reportStops s j ≡ false) → opened (tagsBefore s i) ≤ elementsMost
   unfolding tagsBefore reportStops reportFault labels
   opened-few zero h = omega arith
   opened-few (suc i) h =
@@ -93,9 +94,9 @@ module _ (s : List ℕ) where
       let t = record-sound s (startOf s i) (depth (tagsBefore s i)) (opened (tagsBefore s i)) f .1 in
       omega (arith, opened-append (tagsBefore s i) (tagAt s (startOf s i) ∷ []), more (tagAt s (startOf s i)) before t)
     where
-      more : (t : Tag) → opened (tagsBefore s i) ≤ 4096
+      more : (t : Tag) → opened (tagsBefore s i) ≤ elementsMost
           → tagFault (depth (tagsBefore s i)) (opened (tagsBefore s i)) (eqb (depth (tagsBefore s i)) 0 && ltb 0 (opened (tagsBefore s i))) t ≡ 0
-          → opened (tagsBefore s i) + opened (t ∷ []) ≤ 4096
+          → opened (tagsBefore s i) + opened (t ∷ []) ≤ elementsMost
       more (opens l) b z = omega (arith, open-sound _ _ l _ z .1)
       more closes b z = omega arith
 
@@ -108,23 +109,23 @@ module _ (s : List ℕ) where
       (lastRecord s) (first-before (reportStops s) (length s))
       .within
 
-  report-end-within : Within (length s) 4096 (reportEnd s (lastRecord s))
+  report-end-within : Within (length s) elementsMost (reportEnd s (lastRecord s))
   unfolding reportEnd endOf
   report-end-within =
-      within-either (length s) 4096 _ _ (eqb (startOf s (lastRecord s)) (length s))
-      (within-either (length s) 4096 _ _ (eqb (depth (tagsBefore s (lastRecord s))) 0)
-      (accepted-within (length s) 4096 _ (opened-few (lastRecord s) (first-before (reportStops s) (length s))))
-      (refused-within (length s) 4096 7 (length s) (omega arith)))
-      (refused-within (length s) 4096 (reportFault s (lastRecord s)) (startOf s (lastRecord s)) report-stop)
+      within-either (length s) elementsMost _ _ (eqb (startOf s (lastRecord s)) (length s))
+      (within-either (length s) elementsMost _ _ (eqb (depth (tagsBefore s (lastRecord s))) 0)
+      (accepted-within (length s) elementsMost _ (opened-few (lastRecord s) (first-before (reportStops s) (length s))))
+      (refused-within (length s) elementsMost 7 (length s) (omega arith)))
+      (refused-within (length s) elementsMost (reportFault s (lastRecord s)) (startOf s (lastRecord s)) report-stop)
 
   -- A report's answer has its place within the report, and counts at most 4,096 elements.
-  pub report-within : Within (length s) 4096 (reportAnswer s)
+  pub report-within : Within (length s) elementsMost (reportAnswer s)
   unfolding reportAnswer
   report-within =
-      within-either (length s) 4096 _ _ (ltb (length s) 1 || ltb 40960 (length s))
-      (refused-within (length s) 4096 5 0 (omega arith)) report-end-within
+      within-either (length s) elementsMost _ _ (ltb (length s) 1 || ltb reportMost (length s))
+      (refused-within (length s) elementsMost 5 0 (omega arith)) report-end-within
 
   -- And its place is at most 40,960.
-  pub report-small : Within 40960 4096 (reportAnswer s)
+  pub report-small : Within reportMost elementsMost (reportAnswer s)
   unfolding reportAnswer
-  report-small = within-size (length s) 40960 4096 5 _ report-end-within
+  report-small = within-size (length s) reportMost elementsMost 5 _ report-end-within

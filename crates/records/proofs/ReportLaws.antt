@@ -20,6 +20,7 @@ use Rattle.records.specs.declared.frame.Frame.the-variants.{Whole, Cut, 
 use Rattle.records.proofs.TagLaws.{depth-append, labels-append}
 use Rattle.records.proofs.Reading.{Mid, mid-start, mid-turn, mid-ended, mid-faulty}
 use Rattle.records.proofs.FrameLaws.{Stands, frame-few, frame-unknown, frame-wrong, frame-past, frame-whole, whole-stands}
+use Rattle.records.specs.Limits.{elementsMost, levelsMost, reportMost}
 
 -- ---- one record
 
@@ -117,16 +118,16 @@ module _ (s : List ℕ) (at : ℕ) where
         go Garbled q z = absurd (omega arith)
 
 -- An opening with no fault stays within the limits; a closing with none finds an element open.
-pub open-sound : (d e l : ℕ) (c : Bool) → tagFault d e c (opens l) ≡ 0 → (d < 64) × (e < 4096)
+pub open-sound : (d e l : ℕ) (c : Bool) → tagFault d e c (opens l) ≡ 0 → (d < levelsMost) × (e < elementsMost)
 unfolding tagFault
-open-sound d e l c z = go (outside l) c (leb 64 d) (leb 4096 e) refl refl z
+open-sound d e l c z = go (outside l) c (leb levelsMost d) (leb elementsMost e) refl refl z
   where
-    go : (o q p r : Bool) → leb 64 d ≡ p → leb 4096 e ≡ r → _≡_ {A = ℕ} (cond o 6 (cond q 7 (cond (p || r) 8 0))) 0 → (d < 64) × (e < 4096)
+    go : (o q p r : Bool) → leb levelsMost d ≡ p → leb elementsMost e ≡ r → _≡_ {A = ℕ} (cond o 6 (cond q 7 (cond (p || r) 8 0))) 0 → (d < levelsMost) × (e < elementsMost)
     go true q p r a b z = absurd (omega arith)
     go false true p r a b z = absurd (omega arith)
     go false false true r a b z = absurd (omega arith)
     go false false false true a b z = absurd (omega arith)
-    go false false false false a b z = (leb-false 64 d a, leb-false 4096 e b)
+    go false false false false a b z = (leb-false levelsMost d a, leb-false elementsMost e b)
 
 pub close-sound : (d e : ℕ) (c : Bool) → tagFault d e c closes ≡ 0 → 0 < d
 unfolding tagFault
@@ -140,8 +141,8 @@ pub record ReportMid (s : List ℕ) (i at d e : ℕ) : Type 0 where
   pub mid : Mid s (reportFault s) i at
   pub depth-is : depth (tagsBefore s i) ≡ d
   pub opened-is : opened (tagsBefore s i) ≡ e
-  pub shallow : d ≤ 64
-  pub few : e ≤ 4096
+  pub shallow : d ≤ levelsMost
+  pub few : e ≤ elementsMost
 
 module _ (s : List ℕ) where
   pub report-start : ReportMid s 0 0 0 0
@@ -180,7 +181,7 @@ module _ (s : List ℕ) where
       tag-fine t q = rw q at (record-sound s at d e f .1)
 
       -- An opening stays within the limits.
-      pub report-room : eqb (kindAt s at) 1 ≡ true → (d < 64) × (e < 4096)
+      pub report-room : eqb (kindAt s at) 1 ≡ true → (d < levelsMost) × (e < elementsMost)
       report-room k =
           open-sound d e (numberAt s (at + 4)) (eqb d 0 && ltb 0 e) (tag-fine (opens (numberAt s (at + 4))) (tag-opens s at k))
 
@@ -214,10 +215,10 @@ module _ (s : List ℕ) where
             few = m .few;
           }
 
-    module _ (some : 1 ≤ length s) (few : length s ≤ 40960) where
+    module _ (some : 1 ≤ length s) (few : length s ≤ reportMost) where
       answer-is : first (reportStops s) (length s) ≡ i → reportAnswer s ≡ reportEnd s i
       unfolding reportAnswer
-      answer-is q = rw (le-ltb (length s) 1 some, le-ltb 40960 (length s) few, q)
+      answer-is q = rw (le-ltb (length s) 1 some, le-ltb reportMost (length s) few, q)
 
       pub report-ends : at ≡ length s → endOf (length s) d e ≡ reportAnswer s
       unfolding reportStops reportEnd
@@ -238,6 +239,6 @@ pub report-empty : (s : List ℕ) → length s < 1 → Refused 5 0 ≡ reportAns
 unfolding reportAnswer
 report-empty s h = simp (lt-ltb (length s) 1 h)
 
-pub report-long : (s : List ℕ) → 40960 < length s → Refused 5 0 ≡ reportAnswer s
+pub report-long : (s : List ℕ) → reportMost < length s → Refused 5 0 ≡ reportAnswer s
 unfolding reportAnswer
-report-long s h = simp (le-ltb (length s) 1 (omega arith), lt-ltb 40960 (length s) h)
+report-long s h = simp (le-ltb (length s) 1 (omega arith), lt-ltb reportMost (length s) h)

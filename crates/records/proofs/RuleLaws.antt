@@ -22,6 +22,7 @@ use Rattle.records.specs.declared.rule.Taken.{Taken}
 use Rattle.records.proofs.Reading.{Mid, mid-turn, mid-ended, mid-faulty}
 use Rattle.records.proofs.FrameLaws.{Stands, frame-few, whole-stands}
 use Rattle.records.proofs.Rows.{row-measured}
+use Rattle.records.specs.Limits.{entriesMost, ruleMost}
 
 -- The entry read by the row of its kind is the entry.
 pub entry-is : (s : List ℕ) (at k : ℕ) (row : Row) (e : Entry) → k ≡ kindAt s at → row ≡ rowOf k → e ≡ entryOf row s at → e ≡ entryAt s at
@@ -35,43 +36,43 @@ stands-room s at k st = omega (arith, st .ends, row-measured k (st .known) .long
 -- The record at an offset, as entry `own`, with the row that its kind has.
 module _ (s : List ℕ) (own at : ℕ) where
   -- A 65th entry begins.
-  pub rule-full : 64 ≤ own → 4 ≡ ruleFault s own at
+  pub rule-full : entriesMost ≤ own → 4 ≡ ruleFault s own at
   unfolding ruleFault
-  rule-full h = simp (le-leb 64 own h)
+  rule-full h = simp (le-leb entriesMost own h)
 
   -- Fewer than 4 bytes left.
-  pub rule-few : own < 64 → length s < at + 4 → 2 ≡ ruleFault s own at
+  pub rule-few : own < entriesMost → length s < at + 4 → 2 ≡ ruleFault s own at
   unfolding ruleFault
-  rule-few l h = simp (lt-leb 64 own l, frame-few s at (rowOf (kindAt s at) .length) h)
+  rule-few l h = simp (lt-leb entriesMost own l, frame-few s at (rowOf (kindAt s at) .length) h)
 
   module _ (row : Row) (is : row ≡ rowOf (kindAt s at)) where
     frame-is : (f : Frame) → f ≡ frameOf s at (row .length) → frameOf s at (rowOf (kindAt s at) .length) ≡ f
     frame-is f e = ap (λ (r : Row). frameOf s at (r .length)) (sym is) ∙ sym e
 
     -- The record is not whole.
-    pub rule-broken : own < 64 → (f : Frame) → f ≡ frameOf s at (row .length) → broken f ≡ true → 2 ≡ ruleFault s own at
+    pub rule-broken : own < entriesMost → (f : Frame) → f ≡ frameOf s at (row .length) → broken f ≡ true → 2 ≡ ruleFault s own at
     unfolding ruleFault
-    rule-broken l f e b = simp (lt-leb 64 own l, frame-is f e, b)
+    rule-broken l f e b = simp (lt-leb entriesMost own l, frame-is f e, b)
 
     -- The record is whole: what its entry is decides.
-    pub rule-whole : own < 64 → Whole ≡ frameOf s at (row .length)
+    pub rule-whole : own < entriesMost → Whole ≡ frameOf s at (row .length)
         → cond (misdirected (row .numbers) (row .arguments) own (entryOf row s at)) 3 0 ≡ ruleFault s own at
     unfolding ruleFault entryAt
-    rule-whole l e = rw (is, lt-leb 64 own l, ← (rw is at e))
+    rule-whole l e = rw (is, lt-leb entriesMost own l, ← (rw is at e))
 
     pub rule-room : Whole ≡ frameOf s at (row .length) → at + 4 + 2 * row .arguments ≤ length s
     rule-room e = rw is (stands-room s at (kindAt s at) (whole-stands s at (rowOf (kindAt s at) .length) (sym (rw is at e))))
 
 -- A record with no fault is whole and is not a 65th entry.
-pub rule-sound : (s : List ℕ) (own at : ℕ) → ruleFault s own at ≡ 0 → (own < 64) × Stands s at (rowOf (kindAt s at) .length)
+pub rule-sound : (s : List ℕ) (own at : ℕ) → ruleFault s own at ≡ 0 → (own < entriesMost) × Stands s at (rowOf (kindAt s at) .length)
 unfolding ruleFault
 rule-sound s own at e =
-    go (leb 64 own) (frameOf s at (rowOf (kindAt s at) .length)) (misdirected (rowOf (kindAt s at) .numbers) (rowOf (kindAt s at) .arguments) own (entryAt s at)) refl refl e
+    go (leb entriesMost own) (frameOf s at (rowOf (kindAt s at) .length)) (misdirected (rowOf (kindAt s at) .numbers) (rowOf (kindAt s at) .arguments) own (entryAt s at)) refl refl e
   where
-    go : (full : Bool) (f : Frame) (wrong : Bool) → leb 64 own ≡ full → frameOf s at (rowOf (kindAt s at) .length) ≡ f
-        → _≡_ {A = ℕ} (cond full 4 (cond (broken f) 2 (cond wrong 3 0))) 0 → (own < 64) × Stands s at (rowOf (kindAt s at) .length)
+    go : (full : Bool) (f : Frame) (wrong : Bool) → leb entriesMost own ≡ full → frameOf s at (rowOf (kindAt s at) .length) ≡ f
+        → _≡_ {A = ℕ} (cond full 4 (cond (broken f) 2 (cond wrong 3 0))) 0 → (own < entriesMost) × Stands s at (rowOf (kindAt s at) .length)
     go true f wrong p q z = absurd (omega arith)
-    go false Whole wrong p q z = (leb-false 64 own p, whole-stands s at (rowOf (kindAt s at) .length) q)
+    go false Whole wrong p q z = (leb-false entriesMost own p, whole-stands s at (rowOf (kindAt s at) .length) q)
     go false Cut wrong p q z = absurd (omega arith)
     go false Garbled wrong p q z = absurd (omega arith)
 
@@ -84,7 +85,7 @@ module _ (s : List ℕ) (own at : ℕ) where
   taken-faulty n e z = rw (← e, ne-eqb n 0 z)
 
   -- A whole record: its entry decides.
-  pub taken-whole : (row : Row) → row ≡ rowOf (kindAt s at) → own < 64 → Whole ≡ frameOf s at (row .length)
+  pub taken-whole : (row : Row) → row ≡ rowOf (kindAt s at) → own < entriesMost → Whole ≡ frameOf s at (row .length)
       → (e : Entry) (next : ℕ) (t : Taken) → e ≡ entryOf row s at → next ≡ at + 2 + row .length
       → t ≡ cond (misdirected (row .numbers) (row .arguments) own e) (faultyAt 3 at) (fineAt e next) → t ≡ takenAt s own at
   unfolding takenAt nextOf entryAt
@@ -133,21 +134,21 @@ module _ (s : List ℕ) where
   pub rule-turn : {i at : ℕ} → RuleMid i at → (at ≡ length s → ⊥) → ruleFault s i at ≡ 0 → RuleMid (i + 1) (at + 2 + numberAt s at)
   rule-turn {i} {at} m ne f = mid-turn s (ruleFaults s) m ne (faults-is m ∙ f) (rule-next m f)
 
-  module _ (some : 1 ≤ length s) (few : length s ≤ 512) where
-    answer-is : (i : ℕ) → first (ruleStops s) 64 ≡ i → ruleAnswer s ≡ ruleEnd s i
+  module _ (some : 1 ≤ length s) (few : length s ≤ ruleMost) where
+    answer-is : (i : ℕ) → first (ruleStops s) entriesMost ≡ i → ruleAnswer s ≡ ruleEnd s i
     unfolding ruleAnswer
-    answer-is i e = rw (le-ltb (length s) 1 some, le-ltb 512 (length s) few, e)
+    answer-is i e = rw (le-ltb (length s) 1 some, le-ltb ruleMost (length s) few, e)
 
-    pub rule-accepts : {i at : ℕ} → RuleMid i at → i ≤ 64 → at ≡ length s → Accepted i ≡ ruleAnswer s
+    pub rule-accepts : {i at : ℕ} → RuleMid i at → i ≤ entriesMost → at ≡ length s → Accepted i ≡ ruleAnswer s
     unfolding ruleStops ruleEnd
-    rule-accepts {i} {at} m l e = sym (answer-is i (mid-ended s (ruleFaults s) m e 64 l) ∙ rw (m .begins, eq-eqb at (length s) e))
+    rule-accepts {i} {at} m l e = sym (answer-is i (mid-ended s (ruleFaults s) m e entriesMost l) ∙ rw (m .begins, eq-eqb at (length s) e))
 
-    pub rule-refuses : {i at : ℕ} → RuleMid i at → i ≤ 64 → (at ≡ length s → ⊥) → (ruleFault s i at ≡ 0 → ⊥)
+    pub rule-refuses : {i at : ℕ} → RuleMid i at → i ≤ entriesMost → (at ≡ length s → ⊥) → (ruleFault s i at ≡ 0 → ⊥)
         → Refused (ruleFault s i at) at ≡ ruleAnswer s
     unfolding ruleStops ruleEnd
     rule-refuses {i} {at} m l ne f =
         sym
-        (answer-is i (mid-faulty s (ruleFaults s) m ne (λ z. f (sym (faults-is m) ∙ z)) 64 l)
+        (answer-is i (mid-faulty s (ruleFaults s) m ne (λ z. f (sym (faults-is m) ∙ z)) entriesMost l)
         ∙ rw (m .begins, ne-eqb at (length s) ne))
 
 -- Row 1: no byte, or too many.
@@ -155,6 +156,6 @@ pub rule-empty : (s : List ℕ) → length s < 1 → Refused 1 0 ≡ ruleAnswer 
 unfolding ruleAnswer
 rule-empty s h = simp (lt-ltb (length s) 1 h)
 
-pub rule-long : (s : List ℕ) → 512 < length s → Refused 1 0 ≡ ruleAnswer s
+pub rule-long : (s : List ℕ) → ruleMost < length s → Refused 1 0 ≡ ruleAnswer s
 unfolding ruleAnswer
-rule-long s h = simp (le-ltb (length s) 1 (omega arith), lt-ltb 512 (length s) h)
+rule-long s h = simp (le-ltb (length s) 1 (omega arith), lt-ltb ruleMost (length s) h)

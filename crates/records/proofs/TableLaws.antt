@@ -28,6 +28,7 @@ use Rattle.records.proofs.Reading.{stops-not}
 use Rattle.records.proofs.RuleLaws.{RuleMid}
 use Rattle.records.proofs.ReportLaws.{ReportMid, fault-is, tags-after, tag-opens, tag-closes}
 use Rattle.records.proofs.TagLaws.{labels-append, levels-append, levels-count}
+use Rattle.records.specs.Limits.{entriesMost, reportMost, ruleMost}
 
 -- ---- a lent list with values in its first places
 
@@ -81,28 +82,28 @@ entries-length s (suc i) =
 
 -- An accepted rule ends with its last entry's record, and reading stops at no record before.
 pub record RuleTaken (s : List ℕ) (n : ℕ) : Type 0 where
-  pub few : n ≤ 64
+  pub few : n ≤ entriesMost
   pub ends : startOf s n ≡ length s
   pub clean : (j : ℕ) → j < n → stopsAt (ruleFaults s) s j ≡ false
 
 pub rule-taken : (s : List ℕ) (n : ℕ) → Accepted n ≡ ruleAnswer s → RuleTaken s n
 unfolding ruleAnswer ruleEnd ruleStops
-rule-taken s n a = go (ltb (length s) 1 || ltb 512 (length s)) (eqb (startOf s i) (length s)) refl a
+rule-taken s n a = go (ltb (length s) 1 || ltb ruleMost (length s)) (eqb (startOf s i) (length s)) refl a
   where
     i : ℕ
-    i = first (ruleStops s) 64
+    i = first (ruleStops s) entriesMost
 
-    go : (big end : Bool) → eqb (startOf s (first (ruleStops s) 64)) (length s) ≡ end
-        → Accepted n ≡ cond big (Refused 1 0) (cond end (Accepted (first (ruleStops s) 64)) (Refused (ruleFaults s (first (ruleStops s) 64)) (startOf s (first (ruleStops s) 64))))
+    go : (big end : Bool) → eqb (startOf s (first (ruleStops s) entriesMost)) (length s) ≡ end
+        → Accepted n ≡ cond big (Refused 1 0) (cond end (Accepted (first (ruleStops s) entriesMost)) (Refused (ruleFaults s (first (ruleStops s) entriesMost)) (startOf s (first (ruleStops s) entriesMost))))
         → RuleTaken s n
     go true end q z = let w : _≡_ {A = ℕ} 0 1 = cc in absurd (omega arith)
     go false false q z = let w : _≡_ {A = ℕ} 0 1 = cc in absurd (omega arith)
     go false true q z =
-        let e : first (ruleStops s) 64 ≡ n = cc in
+        let e : first (ruleStops s) entriesMost ≡ n = cc in
         record {
-          few = omega (arith, first-le (ruleStops s) 64);
+          few = omega (arith, first-le (ruleStops s) entriesMost);
           ends = subst (λ (k : ℕ). startOf s k ≡ length s) e (eqb-true _ _ q);
-          clean = λ j l. first-before (ruleStops s) 64 j (omega arith);
+          clean = λ j l. first-before (ruleStops s) entriesMost j (omega arith);
         }
 
 -- A record before the end of an accepted rule has no fault.
@@ -148,7 +149,7 @@ pub record ReportTaken (s : List ℕ) : Type 0 where
 pub report-taken : (s : List ℕ) → Accepts (reportAnswer s) → ReportTaken s
 unfolding reportAnswer reportEnd reportStops
 report-taken s a =
-    go (ltb (length s) 1 || ltb 40960 (length s)) (eqb (startOf s (lastRecord s)) (length s)) refl
+    go (ltb (length s) 1 || ltb reportMost (length s)) (eqb (startOf s (lastRecord s)) (length s)) refl
     (endOf (length s) (depth (tagsBefore s (lastRecord s))) (opened (tagsBefore s (lastRecord s)))) a
   where
     go : (big end : Bool) → eqb (startOf s (lastRecord s)) (length s) ≡ end → (taken : Answer)

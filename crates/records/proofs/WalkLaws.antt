@@ -25,6 +25,7 @@ use Rattle.records.proofs.ReportLaws.{ReportMid, report-start, fault-is
 use Rattle.records.proofs.TagLaws.{labels-append, levels-append, levels-count}
 use Rattle.records.proofs.TableLaws.{over-none, element-put, put-value, labels-taken, levels-taken, entries-taken, column-put}
 use Rattle.records.proofs.RuleLaws.{RuleMid}
+use Rattle.records.specs.Limits.{entriesMost, reportMost, ruleMost}
 
 -- A record with no fault has the length of its tag.
 module _ (s : List ℕ) (at d e : ℕ) (f : recordFault s at d e ≡ 0) where
@@ -91,10 +92,10 @@ module _ (s labels₀ levels₀ : List ℕ) where
             size = sum;
           }
 
-    module _ (some : 1 ≤ length s) (few : length s ≤ 40960) where
+    module _ (some : 1 ≤ length s) (few : length s ≤ reportMost) where
       read-is : lastRecord s ≡ i → tagsRead s ≡ tagsBefore s i
       unfolding tagsRead
-      read-is q = rw (le-ltb (length s) 1 some, le-ltb 40960 (length s) few, q)
+      read-is q = rw (le-ltb (length s) 1 some, le-ltb reportMost (length s) few, q)
 
       -- Where the walk stops, the columns hold the elements of all tags read.
       held-at : lastRecord s ≡ i → (labels₁ ≡ over (labels (tagsRead s)) labels₀) × (levels₁ ≡ over (levels (tagsRead s)) levels₀)
@@ -129,14 +130,14 @@ pub read-empty : (s lent : List ℕ) → length s < 1 → (lent ≡ over (labels
 unfolding tagsRead labels levelsFrom
 read-empty s lent h = rw (lt-ltb (length s) 1 h) (sym (over-none lent), sym (over-none lent))
 
-pub read-long : (s lent : List ℕ) → 40960 < length s → (lent ≡ over (labels (tagsRead s)) lent) × (lent ≡ over (levels (tagsRead s)) lent)
+pub read-long : (s lent : List ℕ) → reportMost < length s → (lent ≡ over (labels (tagsRead s)) lent) × (lent ≡ over (levels (tagsRead s)) lent)
 unfolding tagsRead labels levelsFrom
-read-long s lent h = rw (le-ltb (length s) 1 (omega arith), lt-ltb 40960 (length s) h) (sym (over-none lent), sym (over-none lent))
+read-long s lent h = rw (le-ltb (length s) 1 (omega arith), lt-ltb reportMost (length s) h) (sym (over-none lent), sym (over-none lent))
 
 -- The tags read of an accepted report are its tags.
 read-all : (s : List ℕ) → Accepts (reportAnswer s) → tagsRead s ≡ tagsOf s
 unfolding tagsRead reportAnswer
-read-all s a = go (ltb (length s) 1 || ltb 40960 (length s)) a
+read-all s a = go (ltb (length s) 1 || ltb reportMost (length s)) a
   where
     go : (big : Bool) → Accepts (cond big (Refused 5 0) (reportEnd s (lastRecord s))) → cond big [] (tagsOf s) ≡ tagsOf s
     go true z = absurd z
@@ -147,26 +148,26 @@ taken-lists s a = (ap labels (read-all s a) ∙ sym (labels-taken s a), ap level
 
 -- ---- the rule's entries read
 
-module _ (s : List ℕ) {i at : ℕ} (m : RuleMid s i at) (l : i ≤ 64) (some : 1 ≤ length s) (few : length s ≤ 512) where
-  entries-is : first (ruleStops s) 64 ≡ i → entriesRead s ≡ entriesBefore s i
+module _ (s : List ℕ) {i at : ℕ} (m : RuleMid s i at) (l : i ≤ entriesMost) (some : 1 ≤ length s) (few : length s ≤ ruleMost) where
+  entries-is : first (ruleStops s) entriesMost ≡ i → entriesRead s ≡ entriesBefore s i
   unfolding entriesRead
-  entries-is q = rw (le-ltb (length s) 1 some, le-ltb 512 (length s) few, q)
+  entries-is q = rw (le-ltb (length s) 1 some, le-ltb ruleMost (length s) few, q)
 
   pub entries-ended : at ≡ length s → entriesRead s ≡ entriesBefore s i
   unfolding ruleStops
-  entries-ended q = entries-is (mid-ended s (ruleFaults s) m q 64 l)
+  entries-ended q = entries-is (mid-ended s (ruleFaults s) m q entriesMost l)
 
   pub entries-stopped : (at ≡ length s → ⊥) → (ruleFault s i at ≡ 0 → ⊥) → entriesRead s ≡ entriesBefore s i
   unfolding ruleStops
-  entries-stopped ne f = entries-is (mid-faulty s (ruleFaults s) m ne (λ z. f (ap (λ (x : ℕ). ruleFault s i x) (sym (m .begins)) ∙ z)) 64 l)
+  entries-stopped ne f = entries-is (mid-faulty s (ruleFaults s) m ne (λ z. f (ap (λ (x : ℕ). ruleFault s i x) (sym (m .begins)) ∙ z)) entriesMost l)
 
 pub entries-none : (s : List ℕ) → length s < 1 → entriesRead s ≡ []
 unfolding entriesRead
 entries-none s h = rw (lt-ltb (length s) 1 h)
 
-pub entries-many : (s : List ℕ) → 512 < length s → entriesRead s ≡ []
+pub entries-many : (s : List ℕ) → ruleMost < length s → entriesRead s ≡ []
 unfolding entriesRead
-entries-many s h = rw (le-ltb (length s) 1 (omega arith), lt-ltb 512 (length s) h)
+entries-many s h = rw (le-ltb (length s) 1 (omega arith), lt-ltb ruleMost (length s) h)
 
 -- One entry more.
 pub entries-more : (s : List ℕ) {i at : ℕ} → RuleMid s i at → entriesBefore s (i + 1) ≡ entriesBefore s i ++ (entryAt s at ∷ [])
@@ -178,11 +179,11 @@ entries-more s {i} {at} m =
 pub entries-taken-all : (s : List ℕ) (n : ℕ) → Accepted n ≡ ruleAnswer s → entriesRead s ≡ entriesOf s
 unfolding entriesRead ruleAnswer ruleEnd
 entries-taken-all s n a =
-    go (ltb (length s) 1 || ltb 512 (length s)) (eqb (startOf s (first (ruleStops s) 64)) (length s)) a ∙ sym (entries-taken s n a)
+    go (ltb (length s) 1 || ltb ruleMost (length s)) (eqb (startOf s (first (ruleStops s) entriesMost)) (length s)) a ∙ sym (entries-taken s n a)
   where
     go : (big end : Bool)
-        → Accepted n ≡ cond big (Refused 1 0) (cond end (Accepted (first (ruleStops s) 64)) (Refused (ruleFaults s (first (ruleStops s) 64)) (startOf s (first (ruleStops s) 64))))
-        → cond big [] (entriesBefore s (first (ruleStops s) 64)) ≡ entriesBefore s n
+        → Accepted n ≡ cond big (Refused 1 0) (cond end (Accepted (first (ruleStops s) entriesMost)) (Refused (ruleFaults s (first (ruleStops s) entriesMost)) (startOf s (first (ruleStops s) entriesMost))))
+        → cond big [] (entriesBefore s (first (ruleStops s) entriesMost)) ≡ entriesBefore s n
     go true end z = refused-not (sym z)
     go false false z = refused-not (sym z)
     go false true z = ap (λ (x : Answer). entriesBefore s (countOf x)) (sym z)
@@ -190,7 +191,7 @@ entries-taken-all s n a =
 -- Between two turns of the walk that fills the entries' columns.
 pub record EntriesMid (s kinds₀ firsts₀ seconds₀ kinds firsts seconds : List ℕ) (i at : ℕ) : Type 0 where
   pub mid : RuleMid s i at
-  pub few : i ≤ 64
+  pub few : i ≤ entriesMost
   pub kinds-so : kinds ≡ over (map kindOf (entriesBefore s i)) kinds₀
   pub firsts-so : firsts ≡ over (map aOf (entriesBefore s i)) firsts₀
   pub seconds-so : seconds ≡ over (map bOf (entriesBefore s i)) seconds₀
@@ -207,7 +208,7 @@ module _ (s kinds₀ firsts₀ seconds₀ : List ℕ) where
       record { answer = a; kinds-are = rw e (sym (over-none kinds₀)); firsts-are = rw e (sym (over-none firsts₀)); seconds-are = rw e (sym (over-none seconds₀)) }
 
   module _ {kinds firsts seconds : List ℕ} {i at : ℕ} (m : EntriesMid s kinds₀ firsts₀ seconds₀ kinds firsts seconds i at) where
-    pub entries-turn : (e : Entry) → e ≡ entryAt s at → {at′ : ℕ} → RuleMid s (i + 1) at′ → i < 64 → {ks fs ss : List ℕ} → ks ≡ set kinds i (e .kind)
+    pub entries-turn : (e : Entry) → e ≡ entryAt s at → {at′ : ℕ} → RuleMid s (i + 1) at′ → i < entriesMost → {ks fs ss : List ℕ} → ks ≡ set kinds i (e .kind)
         → fs ≡ set firsts i (e .a) → ss ≡ set seconds i (e .b) → EntriesMid s kinds₀ firsts₀ seconds₀ ks fs ss (i + 1) at′
     entries-turn e q next l k f t =
         record {

@@ -10,6 +10,7 @@ use Rattle.meaning.specs.Marks.{bit}
 use Rattle.text.specs.Decimal.{decimal}
 use Rattle.text.specs.Text.{space, lineFeed, field, phrase, elementLine}
 use Rattle.text.proofs.DecimalLaws.{decimal-short}
+use Rattle.records.specs.Limits.{elementsMost}
 
 -- A field is one byte longer than its number.
 pub field-length : (x end : ℕ) → length (field x end) ≡ length (decimal x) + 1
@@ -40,7 +41,7 @@ bit-small true = omega arith
 bit-small false = omega arith
 
 -- The line of one of 4,096 elements has 19 bytes at most, whatever numbers of 16 bits its label and its level are.
-pub element-short : (element label level : ℕ) (verdict : Bool) → element < 4096 → label < 65536 → level < 65536
+pub element-short : (element label level : ℕ) (verdict : Bool) → element < elementsMost → label < 65536 → level < 65536
     → length (elementLine element label level verdict) ≤ 19
 element-short element label level verdict e l v =
     omega (

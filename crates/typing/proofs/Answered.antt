@@ -17,7 +17,7 @@ use Rattle.grammar.specs.When.{Sized}
 use Rattle.paths.specs.Syntax.{Test}
 use Rattle.paths.specs.Spelling.{Text, StopsAt}
 use Rattle.paths.specs.Translation.{tableOf}
-use Rattle.records.specs.Limits.{entriesMost}
+use Rattle.records.specs.Limits.{entriesMost, ruleMost}
 use Rattle.paths.specs.Answer.{textMost, TextOf, bytesFor, Gets, bad-size, no-text, too-many, no-room, taken}
 use Rattle.paths.proofs.Answer.{gets-only}
 use Rattle.parse.specs.Rows.{HeldT}
@@ -47,7 +47,7 @@ unfolding ruleBytes
 bytes-few [] = omega arith
 bytes-few (e ∷ es) = omega (arith, length-append (recordOf e) (ruleBytes es), record-few e, bytes-few es)
 
-pub room-always : (t : Test) → length (tableOf t) ≤ entriesMost → length (bytesFor t) ≤ 512
+pub room-always : (t : Test) → length (tableOf t) ≤ entriesMost → length (bytesFor t) ≤ ruleMost
 room-always t l = omega (arith, bytes-few (tableOf t))
 
 -- ---- the returns
@@ -59,12 +59,12 @@ module _ (text rule : List ℕ) where
   refused : (n p : ℕ) → Gets text (length rule) n p [] → Typed text rule (reply n p 0) rule
   refused n p g = record { bytes = []; gets = g; count = refl; buffer = refl }
 
-  pub place-small : (o : Outcome) (rows : List ℕ) (p : ℕ) → o ≡ O.Stopped p → TreeRead text o rows → p ≤ 1024
+  pub place-small : (o : Outcome) (rows : List ℕ) (p : ℕ) → o ≡ O.Stopped p → TreeRead text o rows → p ≤ textMost
   place-small o rows p e x = go (stopped .0 0) refl where
     stopped : TreeRead text (O.Stopped p) rows
     stopped = rw e at x
 
-    go : {n q : ℕ} {w : List ℕ} → Gets text 0 n q w → p ≡ q → p ≤ 1024
+    go : {n q : ℕ} {w : List ℕ} → Gets text 0 n q w → p ≡ q → p ≤ textMost
     go (bad-size h) i = omega arith
     go (no-text z h k) i = omega (arith, z .few, k .within)
     go (too-many y l) i = omega arith
@@ -79,19 +79,19 @@ module _ (text rule : List ℕ) where
     abbrev whole : TreeRead text (O.Text n b) rows
     whole = rw e at x
 
-    pub typed-many : (r : PathReply) → 64 < n → r ≡ reply 14 0 0 → Typed text rule r rule
+    pub typed-many : (r : PathReply) → entriesMost < n → r ≡ reply 14 0 0 → Typed text rule r rule
     typed-many r l q = let (t, y, i, j, h) = whole in rw q (refused 14 0 (too-many y (omega arith)))
 
-    module _ (few : n ≤ 64) where
+    module _ (few : n ≤ entriesMost) where
       pub typed-short : (r : PathReply) → length rule < b → r ≡ reply 9 0 0 → Typed text rule r rule
       typed-short r l q = let (t, y, i, j, h) = whole in rw q (refused 9 0 (no-room y (omega arith) (omega arith)))
 
-      pub bytes-small : b ≤ 512
+      pub bytes-small : b ≤ ruleMost
       bytes-small = let (t, y, i, j, h) = whole in omega (arith, room-always t (omega arith))
 
       module _ (room : b ≤ length rule) where
         -- What the writer asks for.
-        pub typed-asks : (n ≤ 64) × ((t : Test) × HeldT rows t n × (length (tableOf t) ≤ 64) × (length (ruleBytes (tableOf t)) ≤ length rule))
+        pub typed-asks : (n ≤ entriesMost) × ((t : Test) × HeldT rows t n × (length (tableOf t) ≤ entriesMost) × (length (ruleBytes (tableOf t)) ≤ length rule))
         typed-asks = let (t, y, i, j, h) = whole in (few, (t, text-held t n rows i few h, omega arith, omega arith))
 
         pub typed-taken : (after : List ℕ) → ((t : Test) → HeldT rows t n → after ≡ sets rule 0 (ruleBytes (tableOf t))) → Typed text rule (reply 0 0 b) after

@@ -12,6 +12,7 @@ use Rattle.parse.specs.Rows.{formOf, Row, HeldT, HeldP, HeldS}
 use Rattle.typing.specs.declared.part.Part.{Part}
 use Rattle.typing.specs.Writing.{oneMore, plainEntries, partAt, putSteps, HeldSteps}
 use Rattle.typing.proofs.Trees.{lastNot, lastOr, lastTested, along-is, along*-is, passing-puts, while-puts, turned}
+use Rattle.records.specs.Limits.{entriesMost}
 
 -- The forms of AXIS are 6 to 9,
 axis-form : (x : Axis) → (6 ≤ neighbourKind x) × (neighbourKind x ≤ 9)
@@ -151,7 +152,7 @@ module _ {rows : List ℕ} {n : ℕ} {p : Part} (s : Says rows n p) where
 
 module _ (rows : List ℕ) where
   -- The steps of a path that is held, and behind them those before it, are held from its last step on.
-  pub turned-held : (p : Path) (before : List Step) (n b : ℕ) → n ≤ 64 → HeldP rows p n b → HeldSteps rows before b
+  pub turned-held : (p : Path) (before : List Step) (n b : ℕ) → n ≤ entriesMost → HeldP rows p n b → HeldSteps rows before b
       → HeldSteps rows (turned p before) n
   unfolding HeldT HeldSteps turned
   turned-held (only st) before n b l x h = (b, l, x, h)
@@ -165,14 +166,14 @@ module _ (rows : List ℕ) where
 
   -- From a row on there is one, and then those from the row that its row names.
   pub steps-is : (sts : List Step) (n : ℕ) → 1 ≤ n → HeldSteps rows sts n
-      → (st : Step) × (b : ℕ) × (before : List Step) × (n ≤ 64) × HeldS rows st n b × HeldSteps rows before b
+      → (st : Step) × (b : ℕ) × (before : List Step) × (n ≤ entriesMost) × HeldS rows st n b × HeldSteps rows before b
       × ((es : List Entry) → putSteps sts es ≡ putSteps before (putS st es))
   unfolding HeldSteps putSteps
   steps-is [] n l h = absurd (omega (arith, l, h))
   steps-is (st ∷ sts) n l (b, k, x, h) = (st, b, sts, k, x, h, λ es. refl)
 
   -- No row past 64 is named.
-  pub steps-row : (sts : List Step) (n : ℕ) → HeldSteps rows sts n → n ≤ 64
+  pub steps-row : (sts : List Step) (n : ℕ) → HeldSteps rows sts n → n ≤ entriesMost
   unfolding HeldSteps
   steps-row [] n h = omega (arith, h)
   steps-row (st ∷ sts) n (b, l, x, h) = l

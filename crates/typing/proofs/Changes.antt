@@ -12,6 +12,7 @@ use Rattle.text.specs.Rendered.{putAt}
 use Rattle.paths.specs.Translation.{lastOf, put}
 use Rattle.typing.specs.declared.put.Written.{Written}
 use Rattle.typing.specs.Writing.{Change, Filled, Asks, Puts}
+use Rattle.records.specs.Limits.{entriesMost}
 
 -- ---- growth
 
@@ -84,7 +85,7 @@ pub puts-as : {f g : Change} {rule rule′ : List ℕ} {w w′ : Written} → ((
 puts-as e p = record { more = p .more; fills = λ before es x. rw (e es) (p .fills before es x) }
 
 -- Where there is room for a change that grows, no more than 64 entries are written.
-pub asks-few : {f : Change} {rule : List ℕ} {w : Written} → Grows f → Asks f rule w → w .entries ≤ 64
+pub asks-few : {f : Change} {rule : List ℕ} {w : Written} → Grows f → Asks f rule w → w .entries ≤ entriesMost
 asks-few g a = omega (arith, a .filled .entries-are, g .longer (a .es), a .few)
 
 -- The number of the last entry that is written.

@@ -16,6 +16,7 @@ use Rattle.paths.specs.Translation.{entry}
 use Rattle.typing.specs.declared.put.Written.{Written}
 use Rattle.typing.specs.Writing.{oneMore, numbers, Asks, Puts}
 use Rattle.typing.proofs.Changes.{put-bytes, put-length}
+use Rattle.records.specs.Limits.{entriesMost}
 
 -- ---- numbers
 
@@ -71,7 +72,7 @@ module _ (k a b : ℕ) {rule : List ℕ} {at : ℕ} where
 -- ---- one record
 
 -- Where there is room for a record, the table is not full.
-pub record-few : (kind a b : ℕ) {rule : List ℕ} {w : Written} → Asks (oneMore kind a b) rule w → w .entries < 64
+pub record-few : (kind a b : ℕ) {rule : List ℕ} {w : Written} → Asks (oneMore kind a b) rule w → w .entries < entriesMost
 record-few kind a b k = omega (arith, k .filled .entries-are, k .few, put-length (k .es) (entry kind a b))
 
 -- A record has two bytes for its length, two for its kind, and its body.

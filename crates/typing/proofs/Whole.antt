@@ -12,6 +12,7 @@ use Rattle.paths.specs.Syntax.{Test}
 use Rattle.paths.specs.Translation.{putT, tableOf}
 use Rattle.typing.specs.declared.put.Written.{Written}
 use Rattle.typing.specs.Writing.{Filled, Asks, Puts}
+use Rattle.records.specs.Limits.{entriesMost}
 
 -- Nothing is written yet.
 abbrev pub nothing : Written
@@ -24,7 +25,7 @@ none-filled rule = record { entries-are = refl; bytes-are = rw zero-add at (put-
 
 module _ (rule : List ℕ) (t : Test) where
   -- There is room for the test's table.
-  pub whole-asks : length (tableOf t) ≤ 64 → length (ruleBytes (tableOf t)) ≤ length rule → Asks (putT t) rule nothing
+  pub whole-asks : length (tableOf t) ≤ entriesMost → length (ruleBytes (tableOf t)) ≤ length rule → Asks (putT t) rule nothing
   unfolding tableOf
   whole-asks few room = record { before = rule; es = []; filled = none-filled rule; few = few; room = room }
 

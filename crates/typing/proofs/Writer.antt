@@ -14,10 +14,11 @@ use Rattle.typing.proofs.Changes.{grows-put, lastIn, asks-as, puts-as, 
 use Rattle.typing.proofs.Steps.{tested-grows}
 use Rattle.typing.proofs.Trees.{lastNot, lastOr, or-grows, test-grows, path-grows, steps-grow, turned, turned-puts}
 use Rattle.typing.proofs.Below.{OfStep, Says, true-is, label-is, not-is, or-is, path-is, before-is, plain-is, tested-is, turned-held, none-before, steps-is, steps-row}
+use Rattle.records.specs.Limits.{entriesMost}
 
 -- What the writer has still to do: less where more entries are written, and where as many are, less for a row below.
 abbrev pub todo : (w : Written) (n : ℕ) → ℕ
-todo w n = 256 * (64 - w .entries) + 3 * n
+todo w n = 256 * (entriesMost - w .entries) + 3 * n
 
 -- ---- a test
 
@@ -115,7 +116,7 @@ module _ {rows : List ℕ} {n : ℕ} {p : Part} (s : Says rows n p) {rule : List
     path-first (t, x, a) =
         let i = path-is s t x h in asks-first (λ k. oneMore 1 0 0) (λ k. putP (i .0)) refl (λ k. path-grows (i .0)) (asks-as (i .2) a)
 
-    module _ {rule₁ : List ℕ} {w₁ : Written} (q : Puts (oneMore 1 0 0) rule w rule₁ w₁) (l : n ≤ 64) where
+    module _ {rule₁ : List ℕ} {w₁ : Written} (q : Puts (oneMore 1 0 0) rule w rule₁ w₁) (l : n ≤ entriesMost) where
       -- once it is put, for the steps,
       pub path-second : TestAsks rows n rule w → StepsAsk rows n rule₁ w₁
       unfolding HeldSteps putSteps
@@ -171,7 +172,7 @@ module _ {rows : List ℕ} {n : ℕ} {p : Part} (s : Says rows n p) {rule : List
 -- ---- a step and those before it
 
 -- There is room for the step,
-pub steps-first : (rows : List ℕ) (n : ℕ) {rule : List ℕ} {w : Written} → 1 ≤ n → StepsAsk rows n rule w → (n ≤ 64) × StepAsks rows n rule w
+pub steps-first : (rows : List ℕ) (n : ℕ) {rule : List ℕ} {w : Written} → 1 ≤ n → StepsAsk rows n rule w → (n ≤ entriesMost) × StepAsks rows n rule w
 steps-first rows n l (sts, x, a) =
     let i = steps-is rows sts n l x in
     let b = asks-first (λ k. putS (i .0)) (λ k. putSteps (i .2)) refl (λ k. steps-grow (i .2)) (asks-as (i .6) a) in
@@ -180,7 +181,7 @@ steps-first rows n l (sts, x, a) =
 module _ {rows : List ℕ} {n : ℕ} {p : Part} (s : Says rows n p) (l : 1 ≤ n)
     {rule rule₁ : List ℕ} {w w₁ : Written} (q : StepPuts rows n rule w rule₁ w₁) where
   -- once it is put, for those before it: it put an entry, and none past 64,
-  steps-second : StepsAsk rows n rule w → (w .entries < w₁ .entries) × (w₁ .entries ≤ 64) × (p .second ≤ 64) × StepsAsk rows (p .second) rule₁ w₁
+  steps-second : StepsAsk rows n rule w → (w .entries < w₁ .entries) × (w₁ .entries ≤ entriesMost) × (p .second ≤ entriesMost) × StepsAsk rows (p .second) rule₁ w₁
   steps-second (sts, x, a) =
       let i = steps-is rows sts n l x in
       let v = q (i .0) (i .1) (i .4) in

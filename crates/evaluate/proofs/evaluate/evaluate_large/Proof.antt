@@ -6,6 +6,7 @@ use lib.ListN.{length-replicate}
 use borrow.Author.Needs.{needs}
 use Rattle.evaluate.proofs.evaluate.evaluate_large.Statement.{statement}
 use Rattle.evaluate.proofs.evaluate.evaluate_large.Tie as tie
+use Rattle.records.specs.Limits.{elementsMost}
 
 slice-aggregate-evaluate-within : tie.Need-slice-aggregate-evaluate-within
 slice-aggregate-evaluate-within c = search needs
@@ -20,7 +21,7 @@ slice-aggregate-evaluate-within-4 : tie.Need-slice-aggregate-evaluate-within-4
 slice-aggregate-evaluate-within-4 c = search needs
 
 evaluate-within-requires : tie.Need-evaluate-within-requires
-evaluate-within-requires c κs = let p = c .before .before .before .before .before .before .before .before .before .before .pre in (p .0, (p .1, ((λ h. omega (arith, h, length-replicate {A = ℕ} 4096 0)), (refl, refl, refl))))
+evaluate-within-requires c κs = let p = c .before .before .before .before .before .before .before .before .before .before .pre in (p .0, (p .1, ((λ h. omega (arith, h, length-replicate {A = ℕ} elementsMost 0)), (refl, refl, refl))))
 
 same-length : tie.Need-same-length
 same-length c = search needs

@@ -7,6 +7,7 @@ use Rattle.records.specs.Answer.{placeOf}
 use Rattle.evaluate.proofs.EvaluateLaws.{rule-place, filled-length, entries-read, evaluated-refused, evaluated-accepted}
 use Rattle.evaluate.proofs.evaluate.pz_evaluate.Statement.{statement}
 use Rattle.evaluate.proofs.evaluate.pz_evaluate.Tie as tie
+use Rattle.records.specs.Limits.{entriesMost}
 
 read-entries-requires : tie.Need-read-entries-requires
 read-entries-requires c κs = search needs
@@ -15,17 +16,17 @@ enum-known-entries : tie.Need-enum-known-entries
 enum-known-entries c = search needs
 
 slice-aggregate-evaluate-report : tie.Need-slice-aggregate-evaluate-report
-slice-aggregate-evaluate-report c = filled-length _ _ 64 (c .before .before .before .before .read-entries .ensures .kinds-are) (length-replicate {A = ℕ} 64 0)
+slice-aggregate-evaluate-report c = filled-length _ _ entriesMost (c .before .before .before .before .read-entries .ensures .kinds-are) (length-replicate {A = ℕ} entriesMost 0)
 
 slice-aggregate-evaluate-report-2 : tie.Need-slice-aggregate-evaluate-report-2
-slice-aggregate-evaluate-report-2 c = filled-length _ _ 64 (c .before .before .before .before .before .read-entries .ensures .firsts-are) (length-replicate {A = ℕ} 64 0)
+slice-aggregate-evaluate-report-2 c = filled-length _ _ entriesMost (c .before .before .before .before .before .read-entries .ensures .firsts-are) (length-replicate {A = ℕ} entriesMost 0)
 
 slice-aggregate-evaluate-report-3 : tie.Need-slice-aggregate-evaluate-report-3
-slice-aggregate-evaluate-report-3 c = filled-length _ _ 64 (c .before .before .before .before .before .before .read-entries .ensures .seconds-are) (length-replicate {A = ℕ} 64 0)
+slice-aggregate-evaluate-report-3 c = filled-length _ _ entriesMost (c .before .before .before .before .before .before .read-entries .ensures .seconds-are) (length-replicate {A = ℕ} entriesMost 0)
 
 evaluate-report-requires : tie.Need-evaluate-report-requires
 evaluate-report-requires c κs =
-    let e = entries-read _ _ _ _ (length-replicate {A = ℕ} 64 0) (length-replicate {A = ℕ} 64 0) (length-replicate {A = ℕ} 64 0) (c .before .before .before .before .before .before .before .read-entries .ensures) (c .before .before .before .before .before .entries .given .1) in
+    let e = entries-read _ _ _ _ (length-replicate {A = ℕ} entriesMost 0) (length-replicate {A = ℕ} entriesMost 0) (length-replicate {A = ℕ} entriesMost 0) (c .before .before .before .before .before .before .before .read-entries .ensures) (c .before .before .before .before .before .entries .given .1) in
     (e .table-rule, (e .kinds-room, e .firsts-room, e .seconds-room))
 
 enum-known-number : tie.Need-enum-known-number
@@ -39,7 +40,7 @@ same-length c = search needs
 
 returns : tie.Need-returns
 returns c =
-    let e = entries-read _ _ _ _ (length-replicate {A = ℕ} 64 0) (length-replicate {A = ℕ} 64 0) (length-replicate {A = ℕ} 64 0) (c .before .before .before .before .before .before .before .before .before .before .read-entries .ensures) (c .before .before .before .before .before .before .before .before .entries .given .1) in
+    let e = entries-read _ _ _ _ (length-replicate {A = ℕ} entriesMost 0) (length-replicate {A = ℕ} entriesMost 0) (length-replicate {A = ℕ} entriesMost 0) (c .before .before .before .before .before .before .before .before .before .before .read-entries .ensures) (c .before .before .before .before .before .before .before .before .entries .given .1) in
     evaluated-accepted _ _ _ _ (e .is) (e .table-read) (c .before .before .evaluate-report .ensures)
 
 returns-2 : tie.Need-returns-2

@@ -12,9 +12,10 @@ use Rattle.records.specs.declared.answer.Answer.the-variants.{Refused}
 use Rattle.records.proofs.RuleLaws.{RuleMid, rule-sound, rule-next, rule-turn, rule-accepts, rule-refuses, rule-empty, rule-long, taken-fault, taken-fine}
 use Rattle.records.proofs.rule.read_rule.Statement.{statement}
 use Rattle.records.proofs.rule.read_rule.Tie as tie
+use Rattle.records.specs.Limits.{entriesMost}
 
 abbrev Inv-loop : tie.InvT-loop
-Inv-loop rule at₀ entries₀ at entries = RuleMid rule entries at × (entries ≤ 64)
+Inv-loop rule at₀ entries₀ at entries = RuleMid rule entries at × (entries ≤ entriesMost)
 
 abbrev μ-loop : tie.MeasureT-loop
 μ-loop rule at₀ entries₀ at entries = length rule - at
