@@ -17,16 +17,6 @@ use Rattle.records.specs.declared.answer.Answer.the-variants.{Accepted, Refused
 use Rattle.meaning.specs.Marks.{words, selected}
 use Rattle.evaluate.specs.declared.evaluate.Evaluation.{Evaluation}
 
--- An accepted report has so many bytes an element. Columns are made for a small report, a middling one or any.
-abbrev pub elementBytes : ℕ
-elementBytes = 10
-
-abbrev pub smallColumns : ℕ
-smallColumns = 64
-
-abbrev pub middleColumns : ℕ
-middleColumns = 512
-
 -- Accepted: number 0, place 0, how many elements there are and how many are selected.
 abbrev pub accepted : ℕ → ℕ → Evaluation
 accepted elements selected = record { number = 0; place = 0; elements = elements; selected = selected }

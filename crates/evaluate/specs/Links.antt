@@ -9,6 +9,16 @@ use lib.Dec.{ltb}
 use lib.ListN.{length, getD}
 use Rattle.meaning.specs.Links.{parent, previous}
 
+-- An accepted report has so many bytes an element. Columns are made for a small report, a middling one or any.
+abbrev pub elementBytes : ℕ
+elementBytes = 10
+
+abbrev pub smallColumns : ℕ
+smallColumns = 64
+
+abbrev pub middleColumns : ℕ
+middleColumns = 512
+
 -- Where a number at element s leads: to the element of that number where it is below s, else nowhere.
 abbrev pub leadsTo : (s number : ℕ) → Option ℕ
 leadsTo s number = cond (ltb number s) (some number) none

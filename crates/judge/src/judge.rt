@@ -1,5 +1,4 @@
 // The record of an input, as bytes in a buffer that always has room for it.
-ghost use mathlib.Core.Path.{_≡_};
 ghost use Prim.Native.Nat.{_≤_};
 ghost use lib.ListN.{length};
 ghost use Rattle.text.specs.Rendered.{Rendered};

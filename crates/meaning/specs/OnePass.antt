@@ -51,7 +51,7 @@ wordTo child p q = 0
 wordTo next p q = 0
 
 -- Entry i's bit for an element with a label, from the bits of the entries before it (w), the parent's word and the previous
--- sibling's.
+-- sibling's. A rule with an entry that looks ahead is refused before any step, so that what stands here for one plays no part.
 unfoldable pub stepBit : Shape → (a b i label w parentWord siblingWord : ℕ) → Bool
 stepBit nothing a b i label w p q = false
 stepBit (local k) a b i label w p q = meansHere k a label (bitAt w a) (bitAt w b)

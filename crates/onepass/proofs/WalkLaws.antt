@@ -6,6 +6,7 @@ use mathlib.Core.Path.{_≡_, refl, sym, ap, _∙_}
 use mathlib.Core.Bool.{Bool, not, _||_}
 use mathlib.Core.List.{List, [], _∷_, _++_}
 use lib.ListN.{length, getD, List·getD-append}
+use Rattle.records.specs.declared.answer.Answer.{Answer}
 use Rattle.records.specs.declared.answer.Answer.the-variants.{Refused}
 use Rattle.records.specs.declared.rule.Entry.{Entry}
 use Rattle.records.specs.Kinds.{shapeLooksBack}
@@ -14,7 +15,7 @@ use Rattle.records.specs.Rule.{entryAt, ruleAnswer}
 use Rattle.records.specs.Tables.{entriesBefore, entriesRead}
 use Rattle.records.proofs.RuleLaws.{RuleMid}
 use Rattle.records.proofs.TableLaws.{entries-length}
-use Rattle.records.proofs.WalkLaws.{entries-more}
+use Rattle.records.proofs.WalkLaws.{Halted, entries-more}
 use Rattle.grammar.specs.Rules.{noEntry}
 use Rattle.meaning.specs.Marks.{bit}
 use Rattle.records.specs.Kinds.{shapeOf}
@@ -63,9 +64,10 @@ pub ahead-then : (s : List ℕ) {i at : ℕ} → RuleMid s i at → (so back : B
 ahead-then s {i} {at} m so back e shape k is z f = rw (entries-more s m, ← k, z, f, is) (sym (ahead-more (entriesBefore s i) e))
 
 -- Where the walk stops.
-pub walk-done : (s : List ℕ) (label p q : ℕ) {i at : ℕ} {ahead : Bool} {w : ℕ} → StepMid s label p q i at ahead w → entriesRead s ≡ entriesBefore s i
-    → (ahead ≡ looksAhead (entriesRead s)) × (w ≡ stepWord (entriesRead s) label p q (length (entriesRead s)))
-walk-done s label p q {i} m r = rw (r, entries-length s i) (m .ahead-so, m .word-so)
+pub walk-done : (s : List ℕ) (label p q : ℕ) {i at : ℕ} {ahead : Bool} {w : ℕ} {r : Answer} → StepMid s label p q i at ahead w → Halted s i r
+    → Walked s label p q record { answer = r; ahead = ahead; word = w }
+walk-done s label p q {i} m h =
+    record { answer-is = h .answer-is; ahead-is = rw (h .read-is) (m .ahead-so); word-is = rw (h .read-is, entries-length s i) (m .word-so) }
 
 -- Nothing was read.
 pub walk-none : (s : List ℕ) (label p q : ℕ) → entriesRead s ≡ [] → Refused 1 0 ≡ ruleAnswer s → Walked s label p q unreadWalk
@@ -77,6 +79,9 @@ pub record AskMid (s : List ℕ) (i at : ℕ) (ahead : Bool) : Type 0 where
   pub mid : RuleMid s i at
   pub few : i ≤ entriesMost
   pub ahead-so : ahead ≡ looksAhead (entriesBefore s i)
+
+pub ask-done : (s : List ℕ) {i at : ℕ} {ahead : Bool} {r : Answer} → AskMid s i at ahead → Halted s i r → Asked s record { answer = r; ahead = ahead }
+ask-done s m h = record { answer-is = h .answer-is; ahead-is = rw (h .read-is) (m .ahead-so) }
 
 pub ask-none : (s : List ℕ) → entriesRead s ≡ [] → Refused 1 0 ≡ ruleAnswer s → Asked s unaskedAhead
 unfolding looksAhead

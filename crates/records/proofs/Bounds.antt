@@ -69,13 +69,6 @@ module _ (s : List ℕ) where
       (accepted-within (length s) entriesMost (first (ruleStops s) entriesMost) (first-le (ruleStops s) entriesMost))
       (refused-within (length s) entriesMost (ruleFaults s (first (ruleStops s) entriesMost)) (startOf s (first (ruleStops s) entriesMost)) rule-stop)
 
-  -- A rule's answer has its place within the rule, and counts at most 64 entries.
-  pub rule-within : Within (length s) entriesMost (ruleAnswer s)
-  unfolding ruleAnswer
-  rule-within =
-      within-either (length s) entriesMost _ _ (ltb (length s) 1 || ltb ruleMost (length s))
-      (refused-within (length s) entriesMost 1 0 (omega arith)) rule-end-within
-
   -- And its place is at most 512.
   pub rule-small : Within ruleMost entriesMost (ruleAnswer s)
   unfolding ruleAnswer
@@ -117,13 +110,6 @@ module _ (s : List ℕ) where
       (accepted-within (length s) elementsMost _ (opened-few (lastRecord s) (first-before (reportStops s) (length s))))
       (refused-within (length s) elementsMost 7 (length s) (omega arith)))
       (refused-within (length s) elementsMost (reportFault s (lastRecord s)) (startOf s (lastRecord s)) report-stop)
-
-  -- A report's answer has its place within the report, and counts at most 4,096 elements.
-  pub report-within : Within (length s) elementsMost (reportAnswer s)
-  unfolding reportAnswer
-  report-within =
-      within-either (length s) elementsMost _ _ (ltb (length s) 1 || ltb reportMost (length s))
-      (refused-within (length s) elementsMost 5 0 (omega arith)) report-end-within
 
   -- And its place is at most 40,960.
   pub report-small : Within reportMost elementsMost (reportAnswer s)

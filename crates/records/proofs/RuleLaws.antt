@@ -24,11 +24,6 @@ use Rattle.records.proofs.FrameLaws.{Stands, frame-few, whole-stands}
 use Rattle.records.proofs.Rows.{row-measured}
 use Rattle.records.specs.Limits.{entriesMost, ruleMost}
 
--- The entry read by the row of its kind is the entry.
-pub entry-is : (s : List ℕ) (at k : ℕ) (row : Row) (e : Entry) → k ≡ kindAt s at → row ≡ rowOf k → e ≡ entryOf row s at → e ≡ entryAt s at
-unfolding entryAt
-entry-is s at k row e p q r = r ∙ ap (λ (x : Row). entryOf x s at) (q ∙ ap rowOf p)
-
 -- A whole record has room for the numbers of its body.
 pub stands-room : (s : List ℕ) (at k : ℕ) → Stands s at (rowOf k .length) → at + 4 + 2 * rowOf k .arguments ≤ length s
 stands-room s at k st = omega (arith, st .ends, row-measured k (st .known) .long)
@@ -113,7 +108,7 @@ module _ (s : List ℕ) (own at : ℕ) where
         go f false k = refl
 
     -- Without one, the entry and the next offset are.
-    pub taken-fine : t .fault ≡ 0 → (t .entry ≡ entryAt s at) × (t .next ≡ nextOf s at)
+    taken-fine : t .fault ≡ 0 → (t .entry ≡ entryAt s at) × (t .next ≡ nextOf s at)
     unfolding takenAt
     taken-fine z =
         let f : t ≡ fineAt (entryAt s at) (nextOf s at) = e ∙ rw (eq-eqb (ruleFault s own at) 0 (sym taken-fault ∙ z)) in
@@ -128,11 +123,32 @@ module _ (s : List ℕ) where
   faults-is : {i at : ℕ} → RuleMid i at → ruleFaults s i ≡ ruleFault s i at
   faults-is {i} {at} m = ap (λ (x : ℕ). ruleFault s i x) (m .begins)
 
-  pub rule-next : {i at : ℕ} → RuleMid i at → ruleFault s i at ≡ 0 → at + 2 + numberAt s at ≤ length s
+  rule-next : {i at : ℕ} → RuleMid i at → ruleFault s i at ≡ 0 → at + 2 + numberAt s at ≤ length s
   rule-next {i} {at} m f = let r = rule-sound s i at f .1 in omega (arith, r .ends, r .long)
 
-  pub rule-turn : {i at : ℕ} → RuleMid i at → (at ≡ length s → ⊥) → ruleFault s i at ≡ 0 → RuleMid (i + 1) (at + 2 + numberAt s at)
+  rule-turn : {i at : ℕ} → RuleMid i at → (at ≡ length s → ⊥) → ruleFault s i at ≡ 0 → RuleMid (i + 1) (at + 2 + numberAt s at)
   rule-turn {i} {at} m ne f = mid-turn s (ruleFaults s) m ne (faults-is m ∙ f) (rule-next m f)
+
+  -- A record that is taken is one of the first 64, has the entry that stands there, and ends within the rule, where the next one begins.
+  pub record Onward (i at : ℕ) (t : Taken) : Type 0 where
+    pub few : i < entriesMost
+    pub entry-is : t .entry ≡ entryAt s at
+    pub on : at < t .next
+    pub within : t .next ≤ length s
+    pub mid : RuleMid (i + 1) (t .next)
+
+  pub rule-onward : {i at : ℕ} → RuleMid i at → (at ≡ length s → ⊥) → (t : Taken) → t ≡ takenAt s i at → t .fault ≡ 0 → Onward i at t
+  unfolding nextOf
+  rule-onward {i} {at} m ne t e z =
+      let f : ruleFault s i at ≡ 0 = sym (taken-fault s i at t e) ∙ z in
+      let (entry, next) = taken-fine s i at t e z in
+      record {
+        few = rule-sound s i at f .0;
+        entry-is = entry;
+        on = omega (arith, next);
+        within = omega (arith, next, rule-next m f);
+        mid = rw next (rule-turn m ne f);
+      }
 
   module _ (some : 1 ≤ length s) (few : length s ≤ ruleMost) where
     answer-is : (i : ℕ) → first (ruleStops s) entriesMost ≡ i → ruleAnswer s ≡ ruleEnd s i

@@ -12,9 +12,10 @@ use lib.ListN.{length, set}
 use Rattle.records.specs.Bytes.{numberAt}
 use Rattle.records.specs.First.{first}
 use Rattle.records.specs.Frame.{kindAt, startOf}
-use Rattle.records.specs.Rule.{entryAt, ruleFault, ruleFaults, ruleStops, ruleEnd, ruleAnswer}
+use Rattle.records.specs.Rule.{entryAt, ruleFault, ruleFaults, ruleStops, ruleEnd, ruleAnswer, takenAt}
 use Rattle.records.specs.declared.answer.Answer.{Answer}
 use Rattle.records.specs.declared.rule.Entry.{Entry}
+use Rattle.records.specs.declared.rule.Taken.{Taken}
 use Rattle.records.specs.Report.{tagAt, tagsBefore, recordFault, reportFault, reportStops, endOf, reportEnd, reportAnswer, lastRecord, tagsOf}
 use Rattle.records.specs.Tags.{labels, levelsFrom, levels}
 use Rattle.records.specs.Tables.{over, labelsOf, levelsOf, tagsRead, entriesBefore, entriesOf, entriesRead, EntriesTaken, kindOf, aOf, bOf}
@@ -24,7 +25,7 @@ use Rattle.records.proofs.Reading.{mid-start, mid-ended, mid-faulty}
 use Rattle.records.proofs.ReportLaws.{ReportMid, report-start, fault-is, tags-after, tag-opens, tag-closes, record-sound, length-opens, length-closes, length-none}
 use Rattle.records.proofs.TagLaws.{labels-append, levels-append, levels-count}
 use Rattle.records.proofs.TableLaws.{over-none, element-put, put-value, labels-taken, levels-taken, entries-taken, column-put}
-use Rattle.records.proofs.RuleLaws.{RuleMid}
+use Rattle.records.proofs.RuleLaws.{RuleMid, rule-accepts, rule-refuses, taken-fault}
 use Rattle.records.specs.Limits.{entriesMost, reportMost, ruleMost}
 
 -- A record with no fault has the length of its tag.
@@ -153,13 +154,31 @@ module _ (s : List ℕ) {i at : ℕ} (m : RuleMid s i at) (l : i ≤ entriesMost
   unfolding entriesRead
   entries-is q = rw (le-ltb (length s) 1 some, le-ltb ruleMost (length s) few, q)
 
-  pub entries-ended : at ≡ length s → entriesRead s ≡ entriesBefore s i
+  entries-ended : at ≡ length s → entriesRead s ≡ entriesBefore s i
   unfolding ruleStops
   entries-ended q = entries-is (mid-ended s (ruleFaults s) m q entriesMost l)
 
-  pub entries-stopped : (at ≡ length s → ⊥) → (ruleFault s i at ≡ 0 → ⊥) → entriesRead s ≡ entriesBefore s i
+  entries-stopped : (at ≡ length s → ⊥) → (ruleFault s i at ≡ 0 → ⊥) → entriesRead s ≡ entriesBefore s i
   unfolding ruleStops
   entries-stopped ne f = entries-is (mid-faulty s (ruleFaults s) m ne (λ z. f (ap (λ (x : ℕ). ruleFault s i x) (sym (m .begins)) ∙ z)) entriesMost l)
+
+-- Where a walk of a rule stops: what the rule is answered, and which entries have been read.
+pub record Halted (s : List ℕ) (i : ℕ) (answer : Answer) : Type 0 where
+  pub answer-is : answer ≡ ruleAnswer s
+  pub read-is : entriesRead s ≡ entriesBefore s i
+
+module _ (s : List ℕ) {i at : ℕ} (m : RuleMid s i at) (l : i ≤ entriesMost) (some : 1 ≤ length s) (few : length s ≤ ruleMost) where
+  pub halts-ended : at ≡ length s → Halted s i (Accepted i)
+  halts-ended q = record { answer-is = rule-accepts s some few m l q; read-is = entries-ended s m l some few q }
+
+  pub halts-faulty : (at ≡ length s → ⊥) → (t : Taken) → t ≡ takenAt s i at → (t .fault ≡ 0 → ⊥) → Halted s i (Refused (t .fault) at)
+  halts-faulty ne t e n =
+      let f = taken-fault s i at t e in
+      let wrong : (ruleFault s i at ≡ 0 → ⊥) = λ z. n (f ∙ z) in
+      record {
+        answer-is = ap (λ (k : ℕ). Refused k at) f ∙ rule-refuses s some few m l ne wrong;
+        read-is = entries-stopped s m l some few ne wrong;
+      }
 
 pub entries-none : (s : List ℕ) → length s < 1 → entriesRead s ≡ []
 unfolding entriesRead
@@ -219,5 +238,7 @@ module _ (s kinds₀ firsts₀ seconds₀ : List ℕ) where
           seconds-so = column-put bOf s seconds₀ seconds _ i at (m .mid .begins) (m .seconds-so) (t ∙ ap (λ (x : Entry). set seconds i (x .b)) q);
         }
 
-    pub entries-done : entriesRead s ≡ entriesBefore s i → (r : Answer) → r ≡ ruleAnswer s → EntriesTaken s kinds₀ firsts₀ seconds₀ r kinds firsts seconds
-    entries-done e r a = record { answer = a; kinds-are = rw e (m .kinds-so); firsts-are = rw e (m .firsts-so); seconds-are = rw e (m .seconds-so) }
+    pub entries-done : {r : Answer} → Halted s i r → EntriesTaken s kinds₀ firsts₀ seconds₀ r kinds firsts seconds
+    entries-done h =
+        let e = h .read-is in
+        record { answer = h .answer-is; kinds-are = rw e (m .kinds-so); firsts-are = rw e (m .firsts-so); seconds-are = rw e (m .seconds-so) }

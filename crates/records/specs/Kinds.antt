@@ -95,7 +95,8 @@ leadsBack Parent = true
 leadsBack Next = false
 leadsBack Previous = true
 
--- What is asked of the element alone looks back, and what goes along an axis that leads back; so do kinds 1 to 5, 7, 9, 11 and 13.
+-- What is asked of the element alone looks back, and what goes along an axis that leads back. So kinds 1 to 5, 7, 9, 11 and 13 do, and no
+-- other: `kinds-back` in proofs/KindLaws.antt.
 unfoldable pub shapeLooksBack : Shape → Bool
 shapeLooksBack Nothing = false
 shapeLooksBack (Here asked) = true

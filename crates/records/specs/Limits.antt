@@ -1,5 +1,9 @@
 -- The limits of document 01, "Records": each has its one definition here, and its one in the code in src/limits.rt. Assumes nothing.
 use Prim.Native.Nat.{ℕ}
+use mathlib.Core.Bool.{Bool, _||_}
+use mathlib.Core.List.{List}
+use lib.Dec.{ltb}
+use lib.ListN.{length}
 
 -- A label is 1 to so many.
 abbrev pub labelMost : ℕ
@@ -21,3 +25,7 @@ elementsMost = 4096
 
 abbrev pub levelsMost : ℕ
 levelsMost = 64
+
+-- A byte string of no byte, or of more than so many: rows 1 and 5.
+abbrev pub missized : (most : ℕ) → List ℕ → Bool
+missized most s = ltb (length s) 1 || ltb most (length s)

@@ -2,7 +2,7 @@
 -- Shuts out: a record after the root's closing taken; a fault other than the first deciding; an end with an element open taken.
 -- Laws: proofs/ReportLaws.antt, and the crate grammar. Assumes nothing.
 use Prim.Native.Nat.{ℕ, zero, suc, _+_}
-use mathlib.Core.Bool.{Bool, cond, _||_, _&&_}
+use mathlib.Core.Bool.{Bool, cond, _&&_}
 use mathlib.Core.List.{List, [], _∷_, _++_}
 use lib.Dec.{ltb, eqb}
 use lib.ListN.{length}
@@ -12,7 +12,7 @@ use Rattle.records.specs.Frame.{kindAt, brokenAt, startOf, stopsAt}
 use Rattle.records.specs.Tags.{Tag, opens, closes, depth, opened, tagFault}
 use Rattle.records.specs.declared.answer.Answer.{Answer}
 use Rattle.records.specs.declared.answer.Answer.the-variants.{Accepted, Refused}
-use Rattle.records.specs.Limits.{reportMost}
+use Rattle.records.specs.Limits.{reportMost, missized}
 
 -- The length of a report record of each kind; 0 for a number that is no kind.
 unfoldable pub reportLength : ℕ → ℕ
@@ -58,7 +58,7 @@ lastRecord s = first (reportStops s) (length s)
 
 -- Row 5 comes first; then the first record in byte order that is at fault decides; where none is, the end.
 unfoldable pub reportAnswer : List ℕ → Answer
-reportAnswer s = cond (ltb (length s) 1 || ltb reportMost (length s)) (Refused 5 0) (reportEnd s (lastRecord s))
+reportAnswer s = cond (missized reportMost s) (Refused 5 0) (reportEnd s (lastRecord s))
 
 -- The report's tags, up to where reading stops.
 abbrev pub tagsOf : List ℕ → List Tag

@@ -4,7 +4,7 @@
 use Prim.Native.Nat.{ℕ, _+_}
 use mathlib.Core.Bool.{Bool, false, cond, _||_, _&&_}
 use mathlib.Core.List.{List}
-use lib.Dec.{leb, ltb, eqb}
+use lib.Dec.{leb, eqb}
 use lib.ListN.{length}
 use Rattle.records.specs.Bytes.{numberAt}
 use Rattle.records.specs.First.{first}
@@ -18,7 +18,7 @@ use Rattle.records.specs.declared.kind.Numbers.the-variants.{Nothing, La
 use Rattle.records.specs.declared.kind.Row.{Row}
 use Rattle.records.specs.declared.rule.Entry.{Entry}
 use Rattle.records.specs.declared.rule.Taken.{Taken}
-use Rattle.records.specs.Limits.{ruleMost, entriesMost}
+use Rattle.records.specs.Limits.{ruleMost, entriesMost, missized}
 
 -- The entry whose record, of this row, stands at an offset: its kind, and the numbers of its body, 0 where it has none.
 unfoldable pub entryOf : Row → List ℕ → ℕ → Entry
@@ -77,4 +77,4 @@ ruleEnd s i = cond (eqb (startOf s i) (length s)) (Accepted i) (Refused (ruleFau
 
 -- Row 1 comes first; then the first record in byte order that is at fault decides, and where none is the rule is accepted.
 unfoldable pub ruleAnswer : List ℕ → Answer
-ruleAnswer s = cond (ltb (length s) 1 || ltb ruleMost (length s)) (Refused 1 0) (ruleEnd s (first (ruleStops s) entriesMost))
+ruleAnswer s = cond (missized ruleMost s) (Refused 1 0) (ruleEnd s (first (ruleStops s) entriesMost))

@@ -2,8 +2,7 @@
 -- Laws: the crate grammar. Assumes nothing.
 use Prim.Native.Nat.{ℕ, zero, suc, _*_}
 use mathlib.Core.Path.{_≡_}
-use mathlib.Core.Bool.{cond, _||_}
-use lib.Dec.{ltb}
+use mathlib.Core.Bool.{cond}
 use lib.ListN.{length}
 use mathlib.Core.List.{List, [], _∷_, _++_, map}
 use lib.Seq.{sets}
@@ -16,7 +15,7 @@ use Rattle.records.specs.Tags.{Tag, labels, levels}
 use Rattle.records.specs.declared.answer.Answer.{Answer}
 use Rattle.records.specs.declared.answer.Answer.the-variants.{Accepted}
 use Rattle.records.specs.declared.rule.Entry.{Entry}
-use Rattle.records.specs.Limits.{ruleMost, entriesMost, reportMost}
+use Rattle.records.specs.Limits.{ruleMost, entriesMost, reportMost, missized}
 
 -- The entries of the first n records.
 unfoldable pub entriesBefore : List ℕ → ℕ → List Entry
@@ -29,7 +28,7 @@ entriesOf s = entriesBefore s (countOf (ruleAnswer s))
 
 -- The entries up to where reading stops; a rule of no byte or of too many is not read.
 unfoldable pub entriesRead : List ℕ → List Entry
-entriesRead s = cond (ltb (length s) 1 || ltb ruleMost (length s)) [] (entriesBefore s (first (ruleStops s) entriesMost))
+entriesRead s = cond (missized ruleMost s) [] (entriesBefore s (first (ruleStops s) entriesMost))
 
 -- The labels of an accepted report's elements in order of opening, and their levels; none of a refused one.
 unfoldable pub labelsOf : List ℕ → List ℕ
@@ -54,7 +53,7 @@ bOf e = e .b
 
 -- The tags up to where reading stops; a report of no byte or of too many is not read.
 unfoldable pub tagsRead : List ℕ → List Tag
-tagsRead s = cond (ltb (length s) 1 || ltb reportMost (length s)) [] (tagsOf s)
+tagsRead s = cond (missized reportMost s) [] (tagsOf s)
 
 -- What reading the elements answers and leaves in lent tables of any length: one walk, so that a refused report leaves the elements
 -- opened before its fault. A table that is too short has those that it has room for; an accepted report has ten bytes an element.

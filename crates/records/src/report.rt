@@ -11,8 +11,8 @@ use crate::answer::Answer;
 use crate::limits::ELEMENTS_MOST;
 use crate::limits::LABEL_MOST;
 use crate::limits::LEVELS_MOST;
-use crate::limits::REPORT_MOST;
 use crate::number::number_at;
+use crate::tables::read_elements;
 
 // The number that an opening gets where so many elements are open and so many have been opened; 0
 // where it has no fault.
@@ -108,34 +108,11 @@ pub(crate) fn end_of(size: usize, depth: usize, elements: usize) -> Answer
     }
 }
 
-// Reads a report: accepted with the number of its elements, or refused.
+// Reads a report: accepted with the number of its elements, or refused. No column is wanted.
 pub fn read_report(report: &[u8]) -> Answer
     ensures { λ r. ⌜ r ≡ reportAnswer (now (report .entry)) ⌝ }
 {
-    if report.len() < 1 {
-        return Answer::Refused(5, 0);
-    }
-    if REPORT_MOST < report.len() {
-        return Answer::Refused(5, 0);
-    }
-    let mut at: usize = 0;
-    let mut depth: usize = 0;
-    let mut elements: usize = 0;
-    let answer = loop {
-        if at == report.len() {
-            break end_of(report.len(), depth, elements);
-        }
-        let fault = record_fault(report, at, depth, elements);
-        if fault != 0 {
-            break Answer::Refused(fault, at);
-        }
-        if opens_at(report, at) {
-            depth = depth + 1;
-            elements = elements + 1;
-        } else {
-            depth = depth - 1;
-        }
-        at = at + 2 + number_at(report, at);
-    };
-    answer
+    let mut labels = [0u16; 0];
+    let mut levels = [0u16; 0];
+    read_elements(report, &mut labels, &mut levels)
 }

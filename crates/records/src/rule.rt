@@ -13,8 +13,8 @@ use crate::kind::Row;
 use crate::kind::row_of;
 use crate::limits::ENTRIES_MOST;
 use crate::limits::LABEL_MOST;
-use crate::limits::RULE_MOST;
 use crate::number::number_at;
+use crate::tables::read_entries;
 
 // An entry of a rule: its kind, and the numbers of its body, 0 where it has none. A label is `a`.
 pub struct Entry {
@@ -117,28 +117,12 @@ pub fn take_entry(s: &[u8], own: usize, at: usize) -> Taken
     }
 }
 
-// Reads a rule: accepted with the number of its entries, or refused.
+// Reads a rule: accepted with the number of its entries, or refused. The tables are not wanted.
 pub fn read_rule(rule: &[u8]) -> Answer
     ensures { λ r. ⌜ r ≡ ruleAnswer (now (rule .entry)) ⌝ }
 {
-    if rule.len() < 1 {
-        return Answer::Refused(1, 0);
-    }
-    if RULE_MOST < rule.len() {
-        return Answer::Refused(1, 0);
-    }
-    let mut at: usize = 0;
-    let mut entries: usize = 0;
-    let answer = loop {
-        if at == rule.len() {
-            break Answer::Accepted(entries);
-        }
-        let taken = take_entry(rule, entries, at);
-        if taken.fault != 0 {
-            break Answer::Refused(taken.fault, at);
-        }
-        at = taken.next;
-        entries = entries + 1;
-    };
-    answer
+    let mut kinds = [0u16; ENTRIES_MOST];
+    let mut firsts = [0u16; ENTRIES_MOST];
+    let mut seconds = [0u16; ENTRIES_MOST];
+    read_entries(rule, &mut kinds, &mut firsts, &mut seconds)
 }
