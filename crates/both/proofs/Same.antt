@@ -6,12 +6,11 @@ use native.Mathlib.Omega.{arith}
 use mathlib.Core.Path.{_≡_, refl, sym, ap, _∙_}
 use mathlib.Core.List.{List, _∷_, _++_}
 use lib.ListN.{length, getD}
-use Rattle.records.specs.Report.{reportAnswer, tagsOf as tagsIn}
-use Rattle.records.specs.Rule.{ruleAnswer}
-use Rattle.records.specs.Tables.{entriesOf, labelsOf, levelsOf}
-use Rattle.records.specs.Tags.{opens, labels, opened}
-use Rattle.records.specs.declared.answer.Answer.the-variants.{Accepted}
-use Rattle.records.proofs.TagLaws.{opened-append}
+use Rattle.reports.specs.Report.{reportAnswer, tagsOf as tagsIn}
+use Rattle.rules.specs.Rule.{ruleAnswer}
+use Rattle.reports.specs.Tags.{opens, labels, opened}
+use Rattle.terms.specs.declared.answer.Answer.the-variants.{Accepted}
+use Rattle.reports.proofs.TagLaws.{opened-append}
 use Rattle.grammar.specs.Bytes.{Bytes}
 use Rattle.grammar.proofs.Elements.{labels-accepted, elements-count, levels-elements}
 use Rattle.meaning.specs.Marks.{bit, bitAt}
@@ -23,6 +22,8 @@ use Rattle.onepass.specs.Step.{Started}
 use Rattle.onepass.specs.Calls.{Call, Calls, tagsOf}
 use Rattle.onepass.specs.declared.export.StepReply.{StepReply}
 use Rattle.onepass.proofs.Agrees.{tags-append, report-fed}
+use Rattle.rules.specs.Entries.{entriesOf}
+use Rattle.reports.specs.Elements.{labelsOf, levelsOf}
 
 -- An opening among an accepted report's tags is one of its elements.
 pub opening-there : (report : List ℕ) (n : ℕ) → reportAnswer report ≡ Accepted n → (before : List Call) (label : ℕ) (r : StepReply) (later : List Call)

@@ -9,10 +9,9 @@ use mathlib.Core.List.{List, _∷_, _++_}
 use mathlib.Core.Logic.{_↔_}
 use lib.ListN.{length, getD, take, drop}
 use lib.Seq.{take-append-seam}
-use Rattle.records.specs.Report.{reportAnswer, tagsOf as tagsIn}
-use Rattle.records.specs.Tables.{entriesOf, labelsOf, levelsOf}
-use Rattle.records.specs.Tags.{opens, opened}
-use Rattle.records.specs.declared.answer.Answer.the-variants.{Accepted}
+use Rattle.reports.specs.Report.{reportAnswer, tagsOf as tagsIn}
+use Rattle.reports.specs.Tags.{opens, opened}
+use Rattle.terms.specs.declared.answer.Answer.the-variants.{Accepted}
 use Rattle.grammar.specs.Bytes.{Bytes}
 use Rattle.meaning.specs.Marks.{bit, bitAt, wordOf}
 use Rattle.meaning.specs.OnePass.{LooksBack}
@@ -24,11 +23,11 @@ use Rattle.onepass.specs.Step.{Started}
 use Rattle.onepass.specs.Calls.{Call, Calls, tagsOf}
 use Rattle.onepass.specs.declared.export.StepReply.{StepReply}
 use Rattle.onepass.proofs.Agrees.{report-fed}
-use Rattle.records.specs.Kinds.{leadsBack}
+use Rattle.terms.specs.Kinds.{leadsBack}
 use Rattle.paths.specs.Syntax.{Test, namesT}
 use Rattle.paths.specs.Selection.{Selects}
 use Rattle.paths.specs.Translation.{lastOf, tableOf}
-use Rattle.records.specs.Limits.{entriesMost}
+use Rattle.terms.specs.Limits.{entriesMost}
 use Rattle.paths.specs.Answer.{TextOf, bytesFor, taken}
 use Rattle.paths.proofs.Answer.{gets-only}
 use Rattle.paths.proofs.Unambiguous.{text-only}
@@ -39,6 +38,8 @@ use Rattle.typing.specs.Typed.{Typed}
 use Rattle.typing.specs.declared.export.PathReply.{PathReply}
 use Rattle.typing.proofs.Answered.{zero-iff}
 use Rattle.both.proofs.Same.{opening-there}
+use Rattle.rules.specs.Entries.{entriesOf}
+use Rattle.reports.specs.Elements.{labelsOf, levelsOf}
 
 bit-one : (b : Bool) → (bit b ≡ 1) ↔ (b ≡ true)
 bit-one true = (λ e. refl, λ e. refl)

@@ -14,7 +14,7 @@ use borrow.Author.Tests.{lt-ltb, le-ltb, eq-eqb, ne-eqb}
 use lib.Bits.{bitOr}
 use lib.Dec.{ltb, eqb}
 use lib.ListN.{length, getD, set, List·getD-eq-default}
-use Rattle.grammar.proofs.Tells.{and-one, holds, told-same, true-iff, eqb-told, and-told}
+use Rattle.numbers.proofs.Tells.{and-one, holds, told-same, true-iff, eqb-told, and-told}
 use Rattle.meaning.specs.Tree.{forward}
 use Rattle.meaning.specs.Marks.{at, anyBelow, bit, bitAt, someOf}
 use Rattle.meaning.proofs.Ways.{at-iff}

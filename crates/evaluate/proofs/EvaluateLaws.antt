@@ -10,16 +10,12 @@ use mathlib.Core.Logic.{⊎-elim}
 use lib.Dec.{ltb, eqb}
 use lib.ListN.{length, take, drop}
 use lib.Seq.{take-append-seam}
-use Rattle.records.specs.Answer.{countOf, placeOf}
-use Rattle.records.specs.Rule.{ruleAnswer}
-use Rattle.records.specs.Report.{reportAnswer}
-use Rattle.records.specs.Tables.{EntriesTaken, ElementsTaken, entriesOf, labelsOf, levelsOf, over, kindOf, aOf, bOf}
-use Rattle.records.specs.declared.answer.Answer.{Answer}
-use Rattle.records.specs.declared.answer.Answer.the-variants.{Accepted, Refused}
-use Rattle.records.specs.declared.rule.Entry.{Entry}
-use Rattle.records.proofs.Bounds.{report-small, rule-small}
-use Rattle.records.proofs.TableLaws.{over-kept, over-length, over-is, accepts-of}
-use Rattle.records.proofs.WalkLaws.{taken-lists, entries-taken-all}
+use Rattle.terms.specs.Answer.{countOf, placeOf}
+use Rattle.rules.specs.Rule.{ruleAnswer}
+use Rattle.reports.specs.Report.{reportAnswer}
+use Rattle.terms.specs.declared.answer.Answer.{Answer}
+use Rattle.terms.specs.declared.answer.Answer.the-variants.{Accepted, Refused}
+use Rattle.rules.specs.declared.rule.Entry.{Entry}
 use Rattle.grammar.specs.Rules.{RuleEntries}
 use Rattle.grammar.specs.Legal.{LegalLevels}
 use Rattle.grammar.proofs.WhenRule.{rule-numbers}
@@ -33,7 +29,14 @@ use Rattle.evaluate.specs.Pass.{Marked}
 use Rattle.grammar.specs.Columns.{tableOf}
 use Rattle.evaluate.specs.declared.evaluate.Evaluation.{Evaluation}
 use Rattle.grammar.proofs.Columns.{table-of-columns}
-use Rattle.records.specs.Limits.{elementsMost, entriesMost, reportMost}
+use Rattle.terms.specs.Limits.{elementsMost, entriesMost, reportMost}
+use Rattle.rules.specs.Entries.{EntriesTaken, entriesOf, kindOf, aOf, bOf}
+use Rattle.reports.specs.Elements.{ElementsTaken, labelsOf, levelsOf}
+use Rattle.numbers.specs.Lists.{over}
+use Rattle.rules.proofs.EntryLaws.{rule-small, entries-taken-all}
+use Rattle.reports.proofs.ElementLaws.{report-small, taken-lists}
+use Rattle.numbers.proofs.Lists.{over-kept, over-length, over-is}
+use Rattle.terms.proofs.AnswerLaws.{accepts-of}
 
 -- ---- a filled column
 

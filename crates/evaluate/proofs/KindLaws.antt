@@ -9,23 +9,21 @@ use mathlib.Core.Bool.{Bool, true, false, not, xor, _&&_, _||_}
 use mathlib.Core.List.{List}
 use lib.ListN.{length, getD, take}
 use lib.Seq.{ext-getD, take-at, take-suc}
-use Rattle.records.specs.declared.rule.Entry.{Entry}
-use Rattle.records.specs.Tables.{over}
-use Rattle.records.proofs.Rows.{numbers-are}
-use Rattle.records.proofs.TableLaws.{over-is, over-length, over-at, over-past}
+use Rattle.rules.specs.declared.rule.Entry.{Entry}
+use Rattle.terms.proofs.Rows.{numbers-are}
 use Rattle.grammar.specs.Legal.{LegalLevels}
 use Rattle.grammar.specs.Rules.{noEntry, RuleEntries}
 use Rattle.grammar.proofs.Entries.{formed-kind, formed-entries, formed-a, formed-b}
-use Rattle.grammar.proofs.Tells.{Told, told-same}
-use Rattle.records.specs.declared.kind.Axis.{Axis}
-use Rattle.records.specs.declared.kind.Axis.the-variants.{Child as child, Parent as parent, Next as next, Previous as previous}
+use Rattle.numbers.proofs.Tells.{Told, told-same}
+use Rattle.terms.specs.declared.kind.Axis.{Axis}
+use Rattle.terms.specs.declared.kind.Axis.the-variants.{Child as child, Parent as parent, Next as next, Previous as previous}
 use Rattle.meaning.specs.Tree.{direction}
 use Rattle.meaning.specs.Links.{link}
-use Rattle.records.specs.declared.kind.Shape.{Shape}
-use Rattle.records.specs.declared.kind.Shape.the-variants.{Nothing as nothing, Here as here, SomeAlong as someAlong, UntilAlong as untilAlong, EveryChild as everyChild}
-use Rattle.records.specs.declared.kind.Local.{Local}
-use Rattle.records.specs.declared.kind.Numbers.the-variants.{Entries}
-use Rattle.records.specs.Kinds.{shapeOf, numbersOf, leadsBack}
+use Rattle.terms.specs.declared.kind.Shape.{Shape}
+use Rattle.terms.specs.declared.kind.Shape.the-variants.{Nothing as nothing, Here as here, SomeAlong as someAlong, UntilAlong as untilAlong, EveryChild as everyChild}
+use Rattle.terms.specs.declared.kind.Local.{Local}
+use Rattle.terms.specs.declared.kind.Numbers.the-variants.{Entries}
+use Rattle.terms.specs.Kinds.{shapeOf, numbersOf, leadsBack}
 use Rattle.meaning.specs.Marks.{bit, bitAt, meansHere, means, mark, word, wordOf, words, selected, wordBits}
 use Rattle.meaning.proofs.Tests.{bool-told}
 use Rattle.meaning.proofs.Reflect.{means-told}
@@ -39,7 +37,9 @@ use Rattle.evaluate.specs.declared.ahead.Look.the-variants.{Every}
 use Rattle.evaluate.proofs.LinkLaws.{ups-all, lefts-all, parent-next}
 use Rattle.evaluate.proofs.PassLaws.{stored-start, stored-same, passed-start}
 use Rattle.grammar.proofs.Columns.{table-length, table-at}
-use Rattle.records.specs.Limits.{entriesMost}
+use Rattle.terms.specs.Limits.{entriesMost}
+use Rattle.numbers.specs.Lists.{over}
+use Rattle.numbers.proofs.Lists.{over-is, over-length, over-at, over-past}
 
 -- ---- the table of passes
 

@@ -13,12 +13,12 @@ use borrow.Author.Tests.{lt-ltb, le-ltb, le-leb, ne-eqb}
 use lib.ListN.{length, getD, set, drop, replicate, length-set, length-drop, length-replicate, List·getD-eq-default}
 use lib.Seq.{getD-set-same, getD-set-other}
 use Rattle.grammar.specs.Legal.{LegalLevels}
-use Rattle.grammar.proofs.Tells.{ltb-told}
+use Rattle.numbers.proofs.Tells.{ltb-told}
 use Rattle.meaning.specs.Links.{lastUpTo, ifLevel, parentAt, parent, previous}
 use Rattle.meaning.proofs.Links.{Last, last-here, last-past, level-iff, guard-iff, Down, parent-is, parent-within, previous-within}
 use Rattle.meaning.proofs.Tests.{Finds}
 use Rattle.evaluate.specs.Links.{leadsTo, leads, Leads, Linked, upOf, leftOf}
-use Rattle.records.specs.Limits.{levelsMost}
+use Rattle.terms.specs.Limits.{levelsMost}
 
 -- ---- where a column leads
 

@@ -3,9 +3,9 @@
 use Prim.Native.Nat.{ℕ}
 use mathlib.Core.Path.{_≡_}
 use mathlib.Core.List.{List}
-use Rattle.records.proofs.Only.{only}
 use Rattle.evaluate.specs.Evaluation.{Evaluated}
 use Rattle.evaluate.specs.declared.evaluate.Evaluation.{Evaluation}
+use Rattle.numbers.proofs.Only.{only}
 
 pub evaluated-only : (rule report marks : List ℕ) {r r′ : Evaluation} {m m′ : List ℕ} → Evaluated rule report marks r m
     → Evaluated rule report marks r′ m′ → (r ≡ r′) × (m ≡ m′)

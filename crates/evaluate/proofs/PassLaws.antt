@@ -17,7 +17,7 @@ use Rattle.meaning.specs.Marks.{bit, bitAt}
 use Rattle.meaning.proofs.Words.{bit-top, bit-under}
 use Rattle.evaluate.specs.Pass.{Stored, Passed, Room, bitsOf}
 use Rattle.evaluate.proofs.WordLaws.{joined-bit}
-use Rattle.records.specs.Limits.{elementsMost}
+use Rattle.terms.specs.Limits.{elementsMost}
 
 -- The values w, with v at t.
 abbrev pub at-put : {A : Type 0} → (ℕ → A) → (t : ℕ) → A → ℕ → A

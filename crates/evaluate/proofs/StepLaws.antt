@@ -10,7 +10,7 @@ use mathlib.Core.Logic.{inl, inr, ⊎-elim}
 use mathlib.Core.Option.{Option, none, some}
 use lib.Dec.{leb, ltb}
 use lib.ListN.{length, getD}
-use Rattle.grammar.proofs.Tells.{Told, fails, told-same, leb-told, or-told, and-told}
+use Rattle.numbers.proofs.Tells.{Told, fails, told-same, leb-told, or-told, and-told}
 use Rattle.meaning.specs.Tree.{forward, backward}
 use Rattle.meaning.specs.Marks.{at, anyBelow, bitAt, someOf, everyOf}
 use Rattle.meaning.proofs.Tests.{Finds, ahead, behind, bool-told, any-told, until-is}

@@ -6,11 +6,11 @@ use mathlib.Core.Path.{_≡_}
 use mathlib.Core.Bool.{Bool}
 use mathlib.Core.List.{List}
 use lib.ListN.{length, getD}
-use Rattle.records.specs.declared.rule.Entry.{Entry}
-use Rattle.records.specs.Tables.{over}
+use Rattle.rules.specs.declared.rule.Entry.{Entry}
 use Rattle.meaning.specs.Marks.{bit, bitAt, words, selected}
-use Rattle.records.specs.Limits.{elementsMost}
+use Rattle.terms.specs.Limits.{elementsMost}
 use Rattle.meaning.specs.Marks.{wordBits}
+use Rattle.numbers.specs.Lists.{over}
 
 -- The first n words after are w, and the others are as before.
 pub record Stored (n : ℕ) (w : ℕ → ℕ) (before after : List ℕ) : Type 0 where

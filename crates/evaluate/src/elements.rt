@@ -7,7 +7,7 @@ ghost use Rattle.grammar.specs.Rules.{RuleEntries};
 ghost use Rattle.meaning.specs.Marks.{selected};
 ghost use Rattle.evaluate.specs.Pass.{Stored, Marked};
 ghost use Rattle.grammar.specs.Columns.{tableOf};
-ghost use Rattle.records.specs.Limits.{entriesMost};
+ghost use Rattle.terms.specs.Limits.{entriesMost};
 use crate::entry::mark_entries;
 use crate::links::link;
 use crate::word::bit_at;

@@ -7,13 +7,13 @@ ghost use Rattle.grammar.specs.Rules.{RuleEntries};
 ghost use Rattle.evaluate.specs.Links.{elementBytes, smallColumns, middleColumns};
 ghost use Rattle.evaluate.specs.Evaluation.{refused, Evaluated, Reported, Weighed};
 ghost use Rattle.grammar.specs.Columns.{tableOf};
-ghost use Rattle.records.specs.Limits.{elementsMost, reportMost};
+ghost use Rattle.terms.specs.Limits.{elementsMost, reportMost};
 use crate::elements::mark_elements;
-use records::answer::Answer;
-use records::limits::ELEMENTS_MOST;
-use records::limits::ENTRIES_MOST;
-use records::tables::read_elements;
-use records::tables::read_entries;
+use reports::elements::read_elements;
+use rules::table::read_entries;
+use terms::answer::Answer;
+use terms::limits::ELEMENTS_MOST;
+use terms::limits::ENTRIES_MOST;
 
 // Columns are made for so many elements, by how many bytes the report has: an accepted report has ten
 // bytes an element.

@@ -4,7 +4,7 @@ use Prim.Native.Nat.{ℕ}
 use mathlib.Core.Path.{_≡_, refl, sym}
 use mathlib.Core.Bool.{Bool, true, false, cond}
 use mathlib.Core.Logic.{_⊎_, inl, inr, _↔_}
-use Rattle.grammar.proofs.Tells.{Told, holds, fails, pick-here, pick-later, pick-never}
+use Rattle.numbers.proofs.Tells.{Told, holds, fails, pick-here, pick-later, pick-never}
 
 -- Three numbers that differ from each other and from 0.
 pub record Distinct (x y z : ℕ) : Type 0 where

@@ -10,14 +10,14 @@ use mathlib.Core.Logic.{_⊎_, inl, inr, _↔_}
 use lib.Dec.{ltb, eqb}
 use lib.ListN.{length}
 use borrow.Author.Tests.{eq-eqb, ne-eqb}
-use Rattle.records.specs.First.{first}
-use Rattle.records.specs.Frame.{startOf, stopsAt}
-use Rattle.records.specs.declared.answer.Answer.{Answer}
-use Rattle.records.specs.declared.answer.Answer.the-variants.{Refused}
-use Rattle.records.proofs.First.{first-is, first-before, first-there}
+use Rattle.numbers.specs.First.{first}
+use Rattle.terms.specs.Frame.{startOf, stopsAt}
+use Rattle.terms.specs.declared.answer.Answer.{Answer}
+use Rattle.terms.specs.declared.answer.Answer.the-variants.{Refused}
+use Rattle.numbers.proofs.First.{first-is, first-before, first-there}
 use Rattle.grammar.specs.When.{Faulty, Sized, Reached, Ended}
 use Rattle.grammar.proofs.Frame.{start-strict, start-within}
-use Rattle.grammar.proofs.Tells.{Told, holds, fails, true-iff, false-iff, told-stable, or-told, not-told, ltb-told, eqb-told}
+use Rattle.numbers.proofs.Tells.{Told, holds, fails, true-iff, false-iff, told-stable, or-told, not-told, ltb-told, eqb-told}
 
 -- What is answered where reading stops at record i, `ends` being the answer at the end of the string.
 abbrev pub answers : (ℕ → ℕ) → List ℕ → (ℕ → Answer) → ℕ → Answer

@@ -6,22 +6,22 @@ use native.Mathlib.Omega.{arith}
 use mathlib.Core.Path.{_≡_, refl, sym, ap, _∙_}
 use mathlib.Core.List.{List, []}
 use lib.ListN.{length, length-append}
-use Rattle.records.specs.Answer.{countOf, found}
-use Rattle.records.specs.Frame.{startOf}
-use Rattle.records.specs.Report.{tagsBefore, reportFault, reportAnswer, tagsOf}
-use Rattle.records.specs.Tables.{labelsOf, levelsOf}
-use Rattle.records.specs.Tags.{labels, levels, opened}
-use Rattle.records.specs.declared.answer.Answer.{Answer}
-use Rattle.records.specs.declared.answer.Answer.the-variants.{Accepted, Refused}
+use Rattle.terms.specs.Answer.{countOf, found}
+use Rattle.terms.specs.Frame.{startOf}
+use Rattle.reports.specs.Report.{tagsBefore, reportFault, reportAnswer, tagsOf}
+use Rattle.reports.specs.Tags.{labels, levels, opened}
+use Rattle.terms.specs.declared.answer.Answer.{Answer}
+use Rattle.terms.specs.declared.answer.Answer.the-variants.{Accepted, Refused}
 use Rattle.grammar.specs.Legal.{Legal, LegalLevels}
 use Rattle.grammar.specs.Reports.{Tree, tagsT, bytesOf, Labelled, Within}
 use Rattle.grammar.specs.When.{Ended}
-use Rattle.records.proofs.TagLaws.{levels-count}
+use Rattle.reports.proofs.TagLaws.{levels-count}
 use Rattle.grammar.proofs.Fits.{fit-few, fit-labelled, legal-levels}
 use Rattle.grammar.proofs.Trees.{tree-some, tags-size, legal-tree}
 use Rattle.grammar.proofs.WhenReport.{report-accepted-iff, report-last}
 use Rattle.grammar.proofs.ReportBytes.{clean-fit, tags-are, tree-accepted}
-use Rattle.records.specs.Limits.{elementsMost}
+use Rattle.terms.specs.Limits.{elementsMost}
+use Rattle.reports.specs.Elements.{labelsOf, levelsOf}
 
 tags-length : (s : List ℕ) (i : ℕ) → length (tagsBefore s i) ≡ i
 unfolding tagsBefore

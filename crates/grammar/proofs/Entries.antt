@@ -10,22 +10,22 @@ use mathlib.Core.Logic.{inl, inr}
 use lib.ListN.{length, getD, List·getD-append}
 use lib.Seq.{getD-at}
 use borrow.Author.Tests.{lt-leb}
-use Rattle.records.specs.Answer.{countOf}
-use Rattle.records.specs.Frame.{kindAt, startOf}
-use Rattle.records.specs.Kinds.{rowOf, ruleLength}
-use Rattle.records.specs.Rule.{entryOf, entryAt, ruleAnswer, ruleFaults}
-use Rattle.records.specs.Tables.{entriesBefore, entriesOf}
-use Rattle.records.specs.declared.answer.Answer.{Answer}
-use Rattle.records.specs.declared.answer.Answer.the-variants.{Accepted, Refused}
-use Rattle.records.specs.declared.kind.Numbers.the-variants.{Entries}
-use Rattle.records.specs.declared.rule.Entry.{Entry}
+use Rattle.terms.specs.Answer.{countOf}
+use Rattle.terms.specs.Frame.{kindAt, startOf}
+use Rattle.terms.specs.Kinds.{rowOf, ruleLength}
+use Rattle.rules.specs.Rule.{entryOf, entryAt, ruleAnswer, ruleFaults}
+use Rattle.terms.specs.declared.answer.Answer.{Answer}
+use Rattle.terms.specs.declared.answer.Answer.the-variants.{Accepted, Refused}
+use Rattle.terms.specs.declared.kind.Numbers.the-variants.{Entries}
+use Rattle.rules.specs.declared.rule.Entry.{Entry}
 use Rattle.grammar.specs.Rules.{noEntry, WellFormed, RuleEntries}
 use Rattle.grammar.specs.When.{Sized, bad-label, bad-a, bad-b, Ended}
 use Rattle.grammar.proofs.Frame.{unfaulty-sound}
-use Rattle.records.proofs.Rows.{known-range, kind-label, kind-entries}
-use Rattle.records.proofs.TableLaws.{entries-length}
+use Rattle.terms.proofs.Rows.{known-range, kind-label, kind-entries}
 use Rattle.grammar.proofs.WhenRule.{fault-0-iff, rule-accepted-iff}
-use Rattle.records.specs.Limits.{entriesMost, labelMost, ruleMost}
+use Rattle.terms.specs.Limits.{entriesMost, labelMost, ruleMost}
+use Rattle.rules.specs.Entries.{entriesBefore, entriesOf}
+use Rattle.rules.proofs.EntryLaws.{entries-length}
 
 -- ---- a well-formed entry
 

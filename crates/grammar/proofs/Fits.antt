@@ -9,12 +9,12 @@ use mathlib.Core.List.{List, [], _∷_, _++_}
 use mathlib.Core.Logic.{_↔_}
 use lib.Dec.{ltb, eqb}
 use lib.ListN.{length, getD}
-use Rattle.records.specs.Tags.{Tag, opens, closes, depthFrom, depth, labels, levelsFrom, levels, opened, tagFault}
+use Rattle.reports.specs.Tags.{Tag, opens, closes, depthFrom, depth, labels, levelsFrom, levels, opened, tagFault}
 use Rattle.grammar.specs.Legal.{Fit, LegalLevels}
 use Rattle.grammar.specs.Reports.{Labelled}
-use Rattle.records.proofs.TagLaws.{depth-append, opened-append, levels-count}
+use Rattle.reports.proofs.TagLaws.{depth-append, opened-append, levels-count}
 use Rattle.grammar.proofs.TagRows.{opens-well-iff, closes-well-iff}
-use Rattle.records.specs.Limits.{elementsMost, labelMost}
+use Rattle.terms.specs.Limits.{elementsMost, labelMost}
 
 -- Two sequences one after the other fit exactly where the first fits and the second fits where the first ends.
 pub fit-append : (ts us : List Tag) (d e : ℕ) → Fit d e (ts ++ us) ↔ (Fit d e ts × Fit (depthFrom d ts) (e + opened ts) us)

@@ -7,11 +7,11 @@ use mathlib.Core.Path.{_≡_, refl}
 use mathlib.Core.Bool.{Bool, cond}
 use mathlib.Core.List.{List}
 use lib.ListN.{length}
-use Rattle.records.specs.Bytes.{numberAt}
-use Rattle.records.specs.Frame.{frameOf, kindAt, broken, nextOf, startOf}
-use Rattle.records.specs.declared.frame.Frame.the-variants.{Whole, Cut, Garbled}
+use Rattle.numbers.specs.Bytes.{numberAt}
+use Rattle.terms.specs.Frame.{frameOf, kindAt, broken, nextOf, startOf}
+use Rattle.terms.specs.declared.frame.Frame.the-variants.{Whole, Cut, Garbled}
 use Rattle.grammar.specs.When.{Faulty, few-left, unknown-kind, wrong-length, past-end}
-use Rattle.grammar.proofs.Tells.{Told, holds, fails, told-stable, ltb-told, eqb-told}
+use Rattle.numbers.proofs.Tells.{Told, holds, fails, told-stable, ltb-told, eqb-told}
 
 -- ---- one record
 

@@ -1,6 +1,5 @@
 -- The laws of what the readers accept and refuse. Read in this order.
 pub mod Bytes
-pub mod Tells
 pub mod Chain
 pub mod Frame
 pub mod Decides

@@ -12,17 +12,17 @@ use mathlib.Core.List.{List, [], _∷_, _++_, append-assoc, append-nil}
 use mathlib.Core.Logic.{_↔_, ⊎-elim}
 use lib.ListN.{length, drop, length-append}
 use lib.Seq.{drop-length}
-use Rattle.records.specs.Bytes.{numberAt}
-use Rattle.records.specs.Frame.{kindAt, nextOf, startOf}
-use Rattle.records.specs.Tags.{Tag, opens, closes, opened}
-use Rattle.records.specs.Report.{reportLength, tagAt, tagsBefore, reportFault, reportAnswer, tagsOf}
-use Rattle.records.specs.declared.answer.Answer.the-variants.{Accepted}
+use Rattle.numbers.specs.Bytes.{numberAt}
+use Rattle.terms.specs.Frame.{kindAt, nextOf, startOf}
+use Rattle.reports.specs.Tags.{Tag, opens, closes, opened}
+use Rattle.reports.specs.Report.{reportLength, tagAt, tagsBefore, reportFault, reportAnswer, tagsOf}
+use Rattle.terms.specs.declared.answer.Answer.the-variants.{Accepted}
 use Rattle.grammar.specs.Bytes.{twoBytes, Bytes}
 use Rattle.grammar.specs.Legal.{Fit, Legal}
 use Rattle.grammar.specs.Reports.{Tree, tagBytes, bytesOf, tagsT, sizeT, Within}
 use Rattle.grammar.specs.When.{Faulty, Ended}
 use Rattle.grammar.proofs.Bytes.{number-back, number-shift, bytes-split}
-use Rattle.grammar.proofs.Tells.{Told, holds, fails, eqb-told}
+use Rattle.numbers.proofs.Tells.{Told, holds, fails, eqb-told}
 use Rattle.grammar.proofs.Frame.{Sound, sound-unfaulty, unfaulty-sound, start-strict}
 use Rattle.grammar.proofs.Fits.{fit-snoc}
 use Rattle.grammar.proofs.Trees.{bytes-append, bytes-size, tree-some, tags-size, tags-start-only, tags-only, legal-tree, tree-legal}

@@ -6,12 +6,12 @@ use mathlib.Core.Path.{_≡_, refl}
 use mathlib.Core.Bool.{Bool, false, _||_, _&&_}
 use mathlib.Core.Logic.{_↔_, _⊎_, inl, inr, ⊎-elim}
 use lib.Dec.{leb, ltb, eqb}
-use Rattle.records.specs.Tags.{Tag, opens, closes, outside, tagFault}
+use Rattle.reports.specs.Tags.{Tag, opens, closes, tagFault}
 use Rattle.grammar.specs.When.{Outside, Mislabelled, bad-tag, Unbalanced, nothing-open, root-closed, TooMuch, too-deep}
 use Rattle.grammar.specs.When.{too-many}
-use Rattle.grammar.proofs.Tells.{Told, fails, told-iff, ltb-told, leb-told, eqb-told, or-told, and-told}
+use Rattle.numbers.proofs.Tells.{Told, fails, told-iff, ltb-told, leb-told, eqb-told, or-told, and-told}
 use Rattle.grammar.proofs.Chain.{Distinct, chain, chain-none-iff}
-use Rattle.records.specs.Limits.{elementsMost, labelMost, levelsMost}
+use Rattle.terms.specs.Limits.{elementsMost, labelMost, levelsMost, outside}
 
 -- The test of row 6 at a tag.
 abbrev pub mislabels : Tag → Bool

@@ -8,22 +8,22 @@ use mathlib.Core.List.{List}
 use mathlib.Core.Logic.{_↔_, _⊎_, inl, inr, ⊎-elim}
 use lib.Dec.{ltb, eqb}
 use lib.ListN.{length}
-use Rattle.records.specs.First.{first}
-use Rattle.records.specs.Frame.{frameOf, kindAt, broken, startOf, stopsAt}
-use Rattle.records.specs.Tags.{Tag, depth, opened, tagFault}
-use Rattle.records.specs.Report.{reportLength, tagAt, tagsBefore, recordFault, reportFault, reportStops, endOf, reportEnd}
-use Rattle.records.specs.Report.{reportAnswer, lastRecord}
-use Rattle.records.specs.declared.answer.Answer.{Answer}
-use Rattle.records.specs.declared.answer.Answer.the-variants.{Accepted, Refused}
+use Rattle.numbers.specs.First.{first}
+use Rattle.terms.specs.Frame.{frameOf, kindAt, broken, startOf, stopsAt}
+use Rattle.reports.specs.Tags.{Tag, depth, opened, tagFault}
+use Rattle.reports.specs.Report.{reportLength, tagAt, tagsBefore, recordFault, reportFault, reportStops, endOf, reportEnd}
+use Rattle.reports.specs.Report.{reportAnswer, lastRecord}
+use Rattle.terms.specs.declared.answer.Answer.{Answer}
+use Rattle.terms.specs.declared.answer.Answer.the-variants.{Accepted, Refused}
 use Rattle.grammar.specs.When.{Faulty, Sized, Reached, Ended, Row6, Row7, Row8, AtFirst, EndsOpen, EndsWell}
-use Rattle.grammar.proofs.Tells.{Told, holds, fails, or-told, eqb-told, pick-later}
+use Rattle.numbers.proofs.Tells.{Told, holds, fails, or-told, eqb-told, pick-later}
 use Rattle.grammar.proofs.Chain.{chain, chain-numbers, chain-first-iff, chain-second-iff, chain-third-iff}
 use Rattle.grammar.proofs.Frame.{broken-told, start-far}
 use Rattle.grammar.proofs.Decides.{answers, Decided, by-end, by-fault, answer-iff, ended-first, sizeFirst}
 use Rattle.grammar.proofs.Decides.{unsized-iff, sized-iff}
 use Rattle.grammar.proofs.TagRows.{mislabels, unbalances, overfills, mislabels-told, unbalances-told, overfills-told}
 use Rattle.grammar.proofs.TagRows.{tag-fault-is, numbers-distinct}
-use Rattle.records.specs.Limits.{reportMost}
+use Rattle.terms.specs.Limits.{reportMost}
 
 -- ---- one record
 

@@ -8,23 +8,23 @@ use mathlib.Core.List.{List}
 use mathlib.Core.Logic.{_⊎_, inl, inr, _↔_, Iff·rfl, Iff·trans, Iff·and}
 use lib.Dec.{leb}
 use lib.ListN.{length}
-use Rattle.records.specs.First.{first}
-use Rattle.records.specs.Frame.{frameOf, kindAt, broken, startOf}
-use Rattle.records.specs.Kinds.{rowOf, ruleLength}
-use Rattle.records.specs.Rule.{entryAt, misdirected, ruleFault, ruleStops, ruleEnd, ruleAnswer, ruleFaults}
-use Rattle.records.specs.declared.answer.Answer.{Answer}
-use Rattle.records.specs.declared.answer.Answer.the-variants.{Accepted, Refused}
-use Rattle.records.specs.declared.kind.Numbers.{Numbers}
-use Rattle.records.specs.declared.kind.Numbers.the-variants.{Nothing, Label, Entries}
-use Rattle.records.specs.declared.kind.Row.{Row}
-use Rattle.records.specs.declared.rule.Entry.{Entry}
+use Rattle.numbers.specs.First.{first}
+use Rattle.terms.specs.Frame.{frameOf, kindAt, broken, startOf}
+use Rattle.terms.specs.Kinds.{rowOf, ruleLength}
+use Rattle.rules.specs.Rule.{entryAt, misdirected, ruleFault, ruleStops, ruleEnd, ruleAnswer, ruleFaults}
+use Rattle.terms.specs.declared.answer.Answer.{Answer}
+use Rattle.terms.specs.declared.answer.Answer.the-variants.{Accepted, Refused}
+use Rattle.terms.specs.declared.kind.Numbers.{Numbers}
+use Rattle.terms.specs.declared.kind.Numbers.the-variants.{Nothing, Label, Entries}
+use Rattle.terms.specs.declared.kind.Row.{Row}
+use Rattle.rules.specs.declared.rule.Entry.{Entry}
 use Rattle.grammar.specs.When.{Sized, Faulty, Outside, Reached, Ended}
 use Rattle.grammar.specs.When.{Misdirected, bad-label, bad-a, bad-b, MisdirectedAt}
 use Rattle.grammar.proofs.Chain.{Distinct, chain-numbers, chain-first-iff, chain-second-iff, chain-third-iff, chain-none-iff}
 use Rattle.grammar.proofs.Decides.{Decided, by-end, by-fault, answer-iff, unsized-iff, sized-iff, size-cases}
 use Rattle.grammar.proofs.Frame.{broken-told}
-use Rattle.grammar.proofs.Tells.{Told, fails, told-iff, or-told, and-told, ltb-told, leb-told}
-use Rattle.records.specs.Limits.{entriesMost, labelMost, ruleMost}
+use Rattle.numbers.proofs.Tells.{Told, fails, told-iff, or-told, and-told, ltb-told, leb-told}
+use Rattle.terms.specs.Limits.{entriesMost, labelMost, ruleMost}
 
 -- ---- the fault of one record
 

@@ -7,8 +7,8 @@ use mathlib.Core.Bool.{_&&_}
 use mathlib.Core.List.{List, [], _∷_}
 use lib.Dec.{ltb, eqb}
 use lib.ListN.{length, getD}
-use Rattle.records.specs.Tags.{Tag, depthFrom, opened, tagFault}
-use Rattle.records.specs.Limits.{elementsMost}
+use Rattle.reports.specs.Tags.{Tag, depthFrom, opened, tagFault}
+use Rattle.terms.specs.Limits.{elementsMost}
 
 -- No tag gets a number, where d elements are open and e have been opened before the tags.
 unfoldable pub Fit : ℕ → ℕ → List Tag → Type 0

@@ -5,16 +5,16 @@ use mathlib.Core.Path.{_≡_}
 use mathlib.Core.Logic.{_⊎_}
 use mathlib.Core.List.{List}
 use lib.ListN.{length}
-use Rattle.records.specs.Bytes.{numberAt}
-use Rattle.records.specs.Frame.{kindAt, startOf}
-use Rattle.records.specs.Kinds.{rowOf}
-use Rattle.records.specs.Report.{reportLength, tagAt, tagsBefore, reportFault}
-use Rattle.records.specs.Rule.{entryAt}
-use Rattle.records.specs.Tags.{Tag, opens, closes, depth, opened}
-use Rattle.records.specs.declared.kind.Numbers.the-variants.{Label, Entries}
-use Rattle.records.specs.declared.kind.Row.{Row}
-use Rattle.records.specs.declared.rule.Entry.{Entry}
-use Rattle.records.specs.Limits.{labelMost, elementsMost, levelsMost}
+use Rattle.numbers.specs.Bytes.{numberAt}
+use Rattle.terms.specs.Frame.{kindAt, startOf}
+use Rattle.terms.specs.Kinds.{rowOf}
+use Rattle.reports.specs.Report.{reportLength, tagAt, tagsBefore, reportFault}
+use Rattle.rules.specs.Rule.{entryAt}
+use Rattle.reports.specs.Tags.{Tag, opens, closes, depth, opened}
+use Rattle.terms.specs.declared.kind.Numbers.the-variants.{Label, Entries}
+use Rattle.terms.specs.declared.kind.Row.{Row}
+use Rattle.rules.specs.declared.rule.Entry.{Entry}
+use Rattle.terms.specs.Limits.{labelMost, elementsMost, levelsMost}
 
 -- Rows 1 and 5 do not apply: the string has 1 byte or more, and not more than `most`.
 pub record Sized (most : ℕ) (s : List ℕ) : Type 0 where

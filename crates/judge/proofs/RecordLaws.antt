@@ -9,16 +9,13 @@ use mathlib.Core.Logic.{⊎-elim}
 use lib.Dec.{eqb}
 use lib.ListN.{length}
 use lib.Seq.{length-sets}
-use Rattle.records.specs.Answer.{countOf, Accepts}
-use Rattle.records.specs.Rule.{ruleAnswer}
-use Rattle.records.specs.Report.{reportAnswer}
-use Rattle.records.specs.Tables.{entriesOf, labelsOf, levelsOf, over, ElementsTaken}
-use Rattle.records.specs.declared.answer.Answer.{Answer}
-use Rattle.records.specs.declared.answer.Answer.the-variants.{Accepted, Refused}
+use Rattle.terms.specs.Answer.{countOf, Accepts}
+use Rattle.rules.specs.Rule.{ruleAnswer}
+use Rattle.reports.specs.Report.{reportAnswer}
+use Rattle.terms.specs.declared.answer.Answer.{Answer}
+use Rattle.terms.specs.declared.answer.Answer.the-variants.{Accepted, Refused}
 use Rattle.records.specs.Reply.{ruleReply}
 use Rattle.records.specs.declared.export.RuleReply.{RuleReply}
-use Rattle.records.proofs.TableLaws.{over-at}
-use Rattle.records.proofs.WalkLaws.{taken-lists}
 use Rattle.grammar.proofs.WhenRule.{rule-numbers}
 use Rattle.grammar.proofs.WhenReport.{report-numbers}
 use Rattle.grammar.proofs.Entries.{entries-count, entries-some}
@@ -31,7 +28,12 @@ use Rattle.evaluate.proofs.Means.{counted, word-is}
 use Rattle.text.specs.Text.{lineOf, elementLines, acceptedLines, acceptedText, headerLine, closingLine, refusedLine}
 use Rattle.text.specs.Rendered.{verdictIn, clamped, tableText, putAt, Rendered}
 use Rattle.judge.specs.Output.{room, acceptedRecord, toldAs, judgedRecord, AcceptedWith}
-use Rattle.records.specs.Limits.{elementsMost}
+use Rattle.terms.specs.Limits.{elementsMost}
+use Rattle.rules.specs.Entries.{entriesOf}
+use Rattle.reports.specs.Elements.{labelsOf, levelsOf, ElementsTaken}
+use Rattle.numbers.specs.Lists.{over}
+use Rattle.numbers.proofs.Lists.{over-at}
+use Rattle.reports.proofs.ElementLaws.{taken-lists}
 
 -- ---- lines that agree
 

@@ -7,18 +7,19 @@ use mathlib.Core.Bool.{cond}
 use mathlib.Core.List.{List}
 use lib.Dec.{eqb}
 use lib.ListN.{length, getD}
-use Rattle.records.specs.Tables.{entriesOf, labelsOf, levelsOf}
-use Rattle.records.specs.Answer.{Accepts}
-use Rattle.records.specs.Rule.{ruleAnswer}
-use Rattle.records.specs.Report.{reportAnswer}
-use Rattle.records.specs.declared.answer.Answer.the-variants.{Accepted}
+use Rattle.terms.specs.Answer.{Accepts}
+use Rattle.rules.specs.Rule.{ruleAnswer}
+use Rattle.reports.specs.Report.{reportAnswer}
+use Rattle.terms.specs.declared.answer.Answer.the-variants.{Accepted}
 use Rattle.meaning.specs.Marks.{wordOf, verdict, selected}
 use Rattle.evaluate.specs.Evaluation.{evaluation, meantWords}
 use Rattle.evaluate.specs.declared.evaluate.Evaluation.{Evaluation}
 use Rattle.text.specs.Text.{refusedLine, acceptedText}
 use Rattle.judge.specs.Input.{splitOf, ruleIn, reportIn}
 use Rattle.judge.specs.declared.split.Halves.{Halves}
-use Rattle.records.specs.Limits.{elementsMost}
+use Rattle.terms.specs.Limits.{elementsMost}
+use Rattle.rules.specs.Entries.{entriesOf}
+use Rattle.reports.specs.Elements.{labelsOf, levelsOf}
 
 -- How many elements the program has room for: as many as a report may have, so that 9 is never printed.
 abbrev pub room : ℕ

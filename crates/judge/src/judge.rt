@@ -7,8 +7,8 @@ ghost use Rattle.judge.specs.Output.{AcceptedWith, acceptedRecord, judge
 use crate::split::split;
 use evaluate::evaluate::pz_evaluate;
 use records::export::pz_read_rule;
-use records::limits::ELEMENTS_MOST;
-use records::tables::read_elements;
+use reports::elements::read_elements;
+use terms::limits::ELEMENTS_MOST;
 use text::put::TEXT_BYTES;
 use text::render::put_accepted;
 use text::render::put_refused;

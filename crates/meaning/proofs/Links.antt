@@ -12,9 +12,9 @@ use mathlib.Core.Logic.{_↔_, ⊎-elim}
 use mathlib.Core.Option.{Option, none, some}
 use borrow.Author.Tests.{le-ltb, le-leb, lt-leb, eq-eqb}
 use lib.ListN.{length, getD}
-use Rattle.grammar.proofs.Tells.{Told, holds, fails, ltb-told, leb-told, eqb-told}
-use Rattle.records.specs.declared.kind.Axis.{Axis}
-use Rattle.records.specs.declared.kind.Axis.the-variants.{Child as child, Parent as toParent, Next as next, Previous as toPrevious}
+use Rattle.numbers.proofs.Tells.{Told, holds, fails, ltb-told, leb-told, eqb-told}
+use Rattle.terms.specs.declared.kind.Axis.{Axis}
+use Rattle.terms.specs.declared.kind.Axis.the-variants.{Child as child, Parent as toParent, Next as next, Previous as toPrevious}
 use Rattle.meaning.specs.Tree.{Child, Next}
 use Rattle.meaning.specs.Links.{lastUpTo, ifLevel, parentAt, parent, previous, link}
 

@@ -7,18 +7,18 @@ use mathlib.Core.List.{List}
 use mathlib.Core.Logic.{_↔_}
 use lib.Dec.{eqb}
 use lib.ListN.{length, getD}
-use Rattle.records.specs.declared.rule.Entry.{Entry}
+use Rattle.rules.specs.declared.rule.Entry.{Entry}
 use Rattle.grammar.specs.Rules.{noEntry}
-use Rattle.grammar.proofs.Tells.{Told, holds, fails, true-iff, eqb-told, or-told, and-told, not-told}
-use Rattle.records.specs.declared.kind.Axis.{Axis}
-use Rattle.records.specs.declared.kind.Axis.the-variants.{Child as child, Parent as toParent, Next as next, Previous as toPrevious}
+use Rattle.numbers.proofs.Tells.{Told, holds, fails, true-iff, eqb-told, or-told, and-told, not-told}
+use Rattle.terms.specs.declared.kind.Axis.{Axis}
+use Rattle.terms.specs.declared.kind.Axis.the-variants.{Child as child, Parent as toParent, Next as next, Previous as toPrevious}
 use Rattle.meaning.specs.Tree.{Child, Next, Neighbour, direction}
 use Rattle.meaning.specs.Links.{parent, previous, link}
-use Rattle.records.specs.declared.kind.Local.{Local}
-use Rattle.records.specs.declared.kind.Local.the-variants.{Always as always, HasLabel as hasLabel, Negation as negation, Disjunction as disjunction, Conjunction as conjunction}
-use Rattle.records.specs.declared.kind.Shape.{Shape}
-use Rattle.records.specs.declared.kind.Shape.the-variants.{Nothing as nothing, Here as local, SomeAlong as someAlong, UntilAlong as untilAlong, EveryChild as everyChild}
-use Rattle.records.specs.Kinds.{shapeOf, leadsBack}
+use Rattle.terms.specs.declared.kind.Local.{Local}
+use Rattle.terms.specs.declared.kind.Local.the-variants.{Always as always, HasLabel as hasLabel, Negation as negation, Disjunction as disjunction, Conjunction as conjunction}
+use Rattle.terms.specs.declared.kind.Shape.{Shape}
+use Rattle.terms.specs.declared.kind.Shape.the-variants.{Nothing as nothing, Here as local, SomeAlong as someAlong, UntilAlong as untilAlong, EveryChild as everyChild}
+use Rattle.terms.specs.Kinds.{shapeOf, leadsBack}
 use Rattle.meaning.specs.Meaning.{MeansHere, Means, Below, Holds}
 use Rattle.meaning.specs.Marks.{meansHere, means, below, mark, bitAt, wordOf, verdict}
 use Rattle.meaning.proofs.Links.{parent-is, parent-down, previous-is, previous-down}

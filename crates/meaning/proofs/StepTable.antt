@@ -9,17 +9,17 @@ use mathlib.Core.Bool.{Bool, true}
 use mathlib.Core.List.{List}
 use mathlib.Core.Option.{Option, none, some}
 use lib.ListN.{length, getD}
-use Rattle.records.specs.declared.rule.Entry.{Entry}
-use Rattle.records.proofs.First.{clash}
+use Rattle.rules.specs.declared.rule.Entry.{Entry}
+use Rattle.numbers.proofs.First.{clash}
 use Rattle.grammar.specs.Rules.{noEntry, RuleEntries}
 use Rattle.grammar.proofs.Entries.{formed-a, formed-b}
-use Rattle.records.specs.declared.kind.Axis.{Axis}
-use Rattle.records.specs.declared.kind.Axis.the-variants.{Child as child, Parent as toParent, Next as next, Previous as toPrevious}
+use Rattle.terms.specs.declared.kind.Axis.{Axis}
+use Rattle.terms.specs.declared.kind.Axis.the-variants.{Child as child, Parent as toParent, Next as next, Previous as toPrevious}
 use Rattle.meaning.specs.Tree.{direction}
 use Rattle.meaning.specs.Links.{parent, previous, link}
-use Rattle.records.specs.declared.kind.Shape.{Shape}
-use Rattle.records.specs.declared.kind.Shape.the-variants.{Nothing as nothing, Here as local, SomeAlong as someAlong, UntilAlong as untilAlong, EveryChild as everyChild}
-use Rattle.records.specs.Kinds.{rowOf, shapeOf, leadsBack, shapeLooksBack}
+use Rattle.terms.specs.declared.kind.Shape.{Shape}
+use Rattle.terms.specs.declared.kind.Shape.the-variants.{Nothing as nothing, Here as local, SomeAlong as someAlong, UntilAlong as untilAlong, EveryChild as everyChild}
+use Rattle.terms.specs.Kinds.{rowOf, shapeOf, leadsBack, shapeLooksBack}
 use Rattle.meaning.specs.Marks.{at, someOf, meansHere, means, mark, bitAt, word, wordOf}
 use Rattle.meaning.specs.OnePass.{LooksBack, wordTo, stepBit, stepWord}
 use Rattle.meaning.proofs.Tests.{until-is}

@@ -11,13 +11,12 @@ use mathlib.Core.Bool.{Bool, true, false, cond}
 use mathlib.Core.List.{List, [], _∷_, _++_, append-assoc, append-nil}
 use lib.Dec.{eqb}
 use lib.ListN.{length, replicate}
-use Rattle.records.specs.declared.answer.Answer.{Answer}
-use Rattle.records.specs.declared.answer.Answer.the-variants.{Accepted, Refused}
-use Rattle.records.specs.declared.rule.Entry.{Entry}
-use Rattle.records.specs.Report.{reportAnswer, tagsOf as tagsIn}
-use Rattle.records.specs.Rule.{ruleAnswer}
-use Rattle.records.specs.Tables.{entriesOf, levelsOf, labelsOf}
-use Rattle.records.specs.Tags.{Tag, opens, closes, opened}
+use Rattle.terms.specs.declared.answer.Answer.{Answer}
+use Rattle.terms.specs.declared.answer.Answer.the-variants.{Accepted, Refused}
+use Rattle.rules.specs.declared.rule.Entry.{Entry}
+use Rattle.reports.specs.Report.{reportAnswer, tagsOf as tagsIn}
+use Rattle.rules.specs.Rule.{ruleAnswer}
+use Rattle.reports.specs.Tags.{Tag, opens, closes, opened}
 use Rattle.grammar.specs.Bytes.{Bytes}
 use Rattle.grammar.proofs.Elements.{accepted-legal, levels-accepted, labels-accepted}
 use Rattle.grammar.specs.Reports.{bytesOf}
@@ -36,6 +35,8 @@ use Rattle.onepass.specs.declared.export.StepReply.{StepReply}
 use Rattle.onepass.proofs.StateLaws.{zeros-fresh, zeros-good, zeros-bytes}
 use Rattle.onepass.proofs.CallLaws.{call-taken, call-number, written-state, written-good, written-bytes}
 use Rattle.onepass.proofs.Begins.{report-begins, fit-goes-on}
+use Rattle.rules.specs.Entries.{entriesOf}
+use Rattle.reports.specs.Elements.{levelsOf, labelsOf}
 
 -- ---- one call
 

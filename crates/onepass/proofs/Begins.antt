@@ -7,10 +7,10 @@ use native.Mathlib.Omega.{arith}
 use mathlib.Core.Path.{_≡_, refl, sym, ap, _∙_}
 use mathlib.Core.List.{List, [], _∷_, _++_, append-assoc, append-nil}
 use lib.ListN.{length, replicate, length-append}
-use Rattle.records.specs.Frame.{startOf}
-use Rattle.records.specs.Report.{tagAt, tagsBefore, tagsOf}
-use Rattle.records.specs.Tags.{Tag, opens, closes, depthFrom, depth, labels, opened}
-use Rattle.records.proofs.TagLaws.{depth-append}
+use Rattle.terms.specs.Frame.{startOf}
+use Rattle.reports.specs.Report.{tagAt, tagsBefore, tagsOf}
+use Rattle.reports.specs.Tags.{Tag, opens, closes, depthFrom, depth, labels, opened}
+use Rattle.reports.proofs.TagLaws.{depth-append}
 use Rattle.grammar.specs.Bytes.{Bytes, twoBytes}
 use Rattle.grammar.specs.Legal.{Fit, Legal}
 use Rattle.grammar.specs.Reports.{tagsT, sizeT, tagBytes, bytesOf}
@@ -20,7 +20,7 @@ use Rattle.grammar.proofs.ReportBytes.{tags-back, tags-are, accepted-tree, tree
 use Rattle.grammar.proofs.TagRows.{opens-well-iff, closes-well-iff}
 use Rattle.grammar.proofs.Trees.{bytes-append, legal-tree}
 use Rattle.onepass.specs.Calls.{Begins}
-use Rattle.records.specs.Limits.{labelMost}
+use Rattle.terms.specs.Limits.{labelMost}
 
 -- ---- the tags of such a report
 

@@ -10,9 +10,9 @@ use mathlib.Core.List.{List}
 use lib.Dec.{leb, ltb, eqb}
 use lib.ListN.{length}
 use lib.Pow.{pow-mono}
-use Rattle.records.specs.declared.rule.Entry.{Entry}
-use Rattle.records.specs.Tags.{Tag, opens, closes, outside, tagFault}
-use Rattle.records.proofs.ReportLaws.{open-sound, close-sound}
+use Rattle.rules.specs.declared.rule.Entry.{Entry}
+use Rattle.reports.specs.Tags.{Tag, opens, closes, tagFault}
+use Rattle.reports.proofs.ReportLaws.{open-sound, close-sound}
 use Rattle.grammar.specs.Bytes.{Bytes}
 use Rattle.meaning.specs.Marks.{bit, bitAt, wordBits}
 use Rattle.meaning.specs.OnePass.{State, fault, stepWord, openedWord, openedVerdict, opened, closed, after}
@@ -25,7 +25,7 @@ use Rattle.onepass.proofs.StepLaws.{step-small}
 use Rattle.onepass.proofs.StateLaws.{state-same, good-iff, listed-at, parent-read, sibling-read, opened-depth, opened-elements}
 use Rattle.onepass.proofs.StateLaws.{opened-root, opened-spare, opened-open, opened-last, opened-presence, closed-depth}
 use Rattle.onepass.proofs.StateLaws.{closed-elements, closed-root, closed-spare, closed-last, closed-open, closed-presence}
-use Rattle.records.specs.Limits.{elementsMost, levelsMost}
+use Rattle.terms.specs.Limits.{elementsMost, levelsMost, outside}
 
 -- ---- when a call is taken
 

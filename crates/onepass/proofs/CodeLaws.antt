@@ -6,19 +6,16 @@ use mathlib.Core.Path.{_≡_, refl, sym, ap, _∙_}
 use mathlib.Core.Bool.{Bool, true, false}
 use mathlib.Core.List.{List, [], _∷_}
 use lib.ListN.{length, replicate}
-use Rattle.records.specs.declared.answer.Answer.{Answer}
-use Rattle.records.specs.declared.answer.Answer.the-variants.{Accepted, Refused}
-use Rattle.records.specs.declared.rule.Entry.{Entry}
-use Rattle.records.specs.Answer.{placeOf, countOf}
-use Rattle.records.specs.Rule.{ruleAnswer}
-use Rattle.records.specs.Tables.{entriesOf, entriesRead}
-use Rattle.records.specs.Kinds.{rowOf, leadsBack, shapeLooksBack}
-use Rattle.records.proofs.WalkLaws.{entries-taken-all}
+use Rattle.terms.specs.declared.answer.Answer.{Answer}
+use Rattle.terms.specs.declared.answer.Answer.the-variants.{Accepted, Refused}
+use Rattle.rules.specs.declared.rule.Entry.{Entry}
+use Rattle.terms.specs.Answer.{placeOf, countOf}
+use Rattle.rules.specs.Rule.{ruleAnswer}
+use Rattle.terms.specs.Kinds.{rowOf, leadsBack, shapeLooksBack}
 use Rattle.onepass.specs.Walk.{Walked, Asked, WordsRead}
 use Rattle.onepass.specs.declared.walk.Walk.{Walk}
 use Rattle.onepass.specs.declared.walk.Ahead.{Ahead}
-use Rattle.records.specs.Tags.{Tag, opens, closes}
-use Rattle.records.proofs.Bounds.{rule-small}
+use Rattle.reports.specs.Tags.{Tag, opens, closes}
 use Rattle.grammar.proofs.Entries.{entries-count, entries-some}
 use Rattle.meaning.specs.Marks.{bit, bitAt}
 use Rattle.meaning.specs.OnePass.{fault, stepWord, openedWord}
@@ -29,7 +26,9 @@ use Rattle.onepass.specs.declared.export.StepReply.{StepReply}
 use Rattle.meaning.proofs.Words.{pred-sub}
 use Rattle.onepass.proofs.StateLaws.{good-iff}
 use Rattle.onepass.proofs.CallLaws.{call-taken, opened-is, closed-is, opened-read, opens-room, closes-room}
-use Rattle.records.specs.Limits.{elementsMost, entriesMost, levelsMost, ruleMost}
+use Rattle.terms.specs.Limits.{elementsMost, entriesMost, levelsMost, ruleMost}
+use Rattle.rules.specs.Entries.{entriesOf, entriesRead}
+use Rattle.rules.proofs.EntryLaws.{entries-taken-all, rule-small}
 
 -- ---- start
 

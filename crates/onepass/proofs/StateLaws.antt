@@ -13,9 +13,9 @@ use mathlib.Core.Logic.{_↔_, _⊎_, inl, inr}
 use lib.Dec.{eqb, ltb}
 use lib.ListN.{length, getD, set, replicate, length-set, length-replicate}
 use lib.Seq.{ext-getD, getD-set-same, getD-set-other}
-use Rattle.records.specs.declared.rule.Entry.{Entry}
+use Rattle.rules.specs.declared.rule.Entry.{Entry}
 use Rattle.grammar.specs.Bytes.{Bytes}
-use Rattle.grammar.proofs.Tells.{Told, false-iff, told-stable, eqb-told, ltb-told, not-told, or-told, and-told}
+use Rattle.numbers.proofs.Tells.{Told, false-iff, told-stable, eqb-told, ltb-told, not-told, or-told, and-told}
 use Rattle.meaning.specs.Marks.{bitAt, wordBits}
 use Rattle.meaning.specs.OnePass.{State, fresh, parentWord, siblingWord}
 use Rattle.onepass.specs.Bytes.{wordAt, putAt, withBit}
@@ -23,7 +23,7 @@ use Rattle.onepass.specs.State.{stateSize, depthIn, elementsIn, rootIn, 
 use Rattle.onepass.specs.Step.{cleared, openedBytes, marked, rooted, closedBytes}
 use Rattle.onepass.proofs.ByteLaws.{put-length, word-other, word-put}
 use Rattle.onepass.proofs.BitLaws.{with-bit-small, with-bit-at}
-use Rattle.records.specs.Limits.{elementsMost, levelsMost}
+use Rattle.terms.specs.Limits.{elementsMost, levelsMost}
 
 -- Two states with the same parts are one.
 pub state-same : {d d′ e e′ : ℕ} {r r′ : Bool} {p p′ : List Bool} {o o′ l l′ : List ℕ} → d ≡ d′ → e ≡ e′ → r ≡ r′ → p ≡ p′ → o ≡ o′ → l ≡ l′

@@ -6,10 +6,10 @@ use mathlib.Core.Path.{_≡_, refl}
 use mathlib.Core.Bool.{Bool, true, false, not, _||_}
 use mathlib.Core.List.{List, [], _∷_, _++_}
 use lib.ListN.{getD}
-use Rattle.records.specs.declared.rule.Entry.{Entry}
-use Rattle.records.specs.Kinds.{looksBack}
+use Rattle.rules.specs.declared.rule.Entry.{Entry}
+use Rattle.terms.specs.Kinds.{looksBack}
 use Rattle.grammar.specs.Rules.{noEntry}
-use Rattle.records.specs.Kinds.{shapeOf}
+use Rattle.terms.specs.Kinds.{shapeOf}
 use Rattle.meaning.specs.OnePass.{stepBit, stepWord}
 use Rattle.meaning.proofs.Words.{bit-le}
 use Rattle.onepass.specs.Step.{looksAhead}

@@ -6,24 +6,23 @@ use mathlib.Core.Path.{_≡_, refl, sym, ap, _∙_}
 use mathlib.Core.Bool.{Bool, not, _||_}
 use mathlib.Core.List.{List, [], _∷_, _++_}
 use lib.ListN.{length, getD, List·getD-append}
-use Rattle.records.specs.declared.answer.Answer.{Answer}
-use Rattle.records.specs.declared.answer.Answer.the-variants.{Refused}
-use Rattle.records.specs.declared.rule.Entry.{Entry}
-use Rattle.records.specs.Kinds.{shapeLooksBack}
-use Rattle.records.specs.declared.kind.Shape.{Shape}
-use Rattle.records.specs.Rule.{entryAt, ruleAnswer}
-use Rattle.records.specs.Tables.{entriesBefore, entriesRead}
-use Rattle.records.proofs.RuleLaws.{RuleMid}
-use Rattle.records.proofs.TableLaws.{entries-length}
-use Rattle.records.proofs.WalkLaws.{Halted, entries-more}
+use Rattle.terms.specs.declared.answer.Answer.{Answer}
+use Rattle.terms.specs.declared.answer.Answer.the-variants.{Refused}
+use Rattle.rules.specs.declared.rule.Entry.{Entry}
+use Rattle.terms.specs.Kinds.{shapeLooksBack}
+use Rattle.terms.specs.declared.kind.Shape.{Shape}
+use Rattle.rules.specs.Rule.{entryAt, ruleAnswer}
+use Rattle.rules.proofs.RuleLaws.{RuleMid}
 use Rattle.grammar.specs.Rules.{noEntry}
 use Rattle.meaning.specs.Marks.{bit}
-use Rattle.records.specs.Kinds.{shapeOf}
+use Rattle.terms.specs.Kinds.{shapeOf}
 use Rattle.meaning.specs.OnePass.{stepBit, stepWord}
 use Rattle.onepass.specs.Step.{looksAhead}
 use Rattle.onepass.specs.Walk.{Walked, unreadWalk, Asked, unaskedAhead}
 use Rattle.onepass.proofs.StepLaws.{ahead-more}
-use Rattle.records.specs.Limits.{entriesMost}
+use Rattle.terms.specs.Limits.{entriesMost}
+use Rattle.rules.specs.Entries.{entriesBefore, entriesRead}
+use Rattle.rules.proofs.EntryLaws.{entries-length, Halted, entries-more}
 
 -- Entries behind the first m play no part in their word.
 step-prefix : (es fs : List Entry) (label p q m : ℕ) → m ≤ length es → stepWord (es ++ fs) label p q m ≡ stepWord es label p q m

@@ -12,7 +12,7 @@ use lib.ListN.{length, getD}
 use Rattle.meaning.specs.Marks.{bitAt}
 use Rattle.meaning.specs.OnePass.{State}
 use Rattle.onepass.specs.Bytes.{wordAt}
-use Rattle.records.specs.Limits.{elementsMost, levelsMost}
+use Rattle.terms.specs.Limits.{elementsMost, levelsMost}
 
 -- The size of a state.
 abbrev pub stateSize : ℕ

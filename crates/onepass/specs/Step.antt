@@ -8,18 +8,18 @@ use mathlib.Core.Bool.{Bool, true, false, cond, not, _&&_, _||_}
 use mathlib.Core.List.{List, [], _∷_}
 use lib.Dec.{eqb, ltb}
 use lib.ListN.{length, replicate}
-use Rattle.records.specs.declared.answer.Answer.{Answer}
-use Rattle.records.specs.declared.answer.Answer.the-variants.{Accepted, Refused}
-use Rattle.records.specs.declared.rule.Entry.{Entry}
-use Rattle.records.specs.Kinds.{looksBack}
-use Rattle.records.specs.Rule.{ruleAnswer}
-use Rattle.records.specs.Tables.{entriesOf}
-use Rattle.records.specs.Tags.{Tag, opens, closes}
+use Rattle.terms.specs.declared.answer.Answer.{Answer}
+use Rattle.terms.specs.declared.answer.Answer.the-variants.{Accepted, Refused}
+use Rattle.rules.specs.declared.rule.Entry.{Entry}
+use Rattle.terms.specs.Kinds.{looksBack}
+use Rattle.rules.specs.Rule.{ruleAnswer}
+use Rattle.reports.specs.Tags.{Tag, opens, closes}
 use Rattle.meaning.specs.Marks.{bit}
 use Rattle.meaning.specs.OnePass.{State, fault, openedWord, openedVerdict}
 use Rattle.onepass.specs.Bytes.{wordAt, putAt, withBit}
 use Rattle.onepass.specs.State.{stateSize, depthIn, elementsIn, presenceIn, openPlace, lastPlace, stateOf, bad}
 use Rattle.onepass.specs.declared.export.StepReply.{StepReply}
+use Rattle.rules.specs.Entries.{entriesOf}
 
 -- An answer has a number, a place and a verdict.
 abbrev pub reply : (number place verdict : ℕ) → StepReply

@@ -5,20 +5,20 @@ use mathlib.Core.Bool.{Bool, false, cond}
 use mathlib.Core.List.{List}
 use lib.Dec.{eqb}
 use lib.ListN.{length}
-use Rattle.records.specs.declared.answer.Answer.the-variants.{Refused}
-use Rattle.records.specs.Rule.{ruleAnswer}
-use Rattle.records.specs.Tables.{entriesRead}
+use Rattle.terms.specs.declared.answer.Answer.the-variants.{Refused}
+use Rattle.rules.specs.Rule.{ruleAnswer}
 use Rattle.meaning.specs.OnePass.{stepWord, openedWord}
 use Rattle.onepass.specs.Step.{looksAhead, callNumber, Answered}
 use Rattle.onepass.specs.Bytes.{wordAt}
 use Rattle.onepass.specs.State.{presenceIn, depthIn, openPlace, lastPlace, stateOf, bad}
 use Rattle.onepass.specs.declared.export.StepReply.{StepReply}
 use Rattle.meaning.specs.Marks.{bitAt}
-use Rattle.records.specs.Tags.{opens}
-use Rattle.records.specs.declared.rule.Entry.{Entry}
+use Rattle.reports.specs.Tags.{opens}
+use Rattle.rules.specs.declared.rule.Entry.{Entry}
 use Rattle.onepass.specs.declared.walk.Walk.{Walk}
 use Rattle.onepass.specs.declared.walk.Ahead.{Ahead}
-use Rattle.records.specs.Limits.{levelsMost}
+use Rattle.terms.specs.Limits.{levelsMost}
+use Rattle.rules.specs.Entries.{entriesRead}
 
 abbrev pub unreadWalk : Walk
 unreadWalk = record { answer = Refused 1 0; ahead = false; word = 0 }

@@ -2,12 +2,12 @@
 ghost use mathlib.Core.Path.{_≡_};
 ghost use Prim.Native.Nat.{_≤_};
 ghost use lib.ListN.{length, replicate};
-ghost use Rattle.records.specs.Tags.{opens, closes};
+ghost use Rattle.reports.specs.Tags.{opens, closes};
 ghost use mathlib.Core.List.{List};
-ghost use Rattle.records.specs.declared.rule.Entry.{Entry};
+ghost use Rattle.rules.specs.declared.rule.Entry.{Entry};
 ghost use Rattle.onepass.specs.Walk.{WordsRead, OpenStep};
 ghost use Rattle.onepass.specs.Step.{Started, Opened, Closed, Answered, callNumber, looksAhead};
-ghost use Rattle.records.specs.Limits.{entriesMost};
+ghost use Rattle.terms.specs.Limits.{entriesMost};
 use crate::bytes::number_at;
 use crate::state::STATE_BYTES;
 use crate::state::bad_state;
@@ -18,10 +18,10 @@ use crate::state::store_opening;
 use crate::walk::ask_rule;
 use crate::walk::walk_rule;
 use bits::bit_at;
-use records::answer::Answer;
-use records::limits::LEVELS_MOST;
-use records::report::close_fault;
-use records::report::open_fault;
+use reports::report::close_fault;
+use reports::report::open_fault;
+use terms::answer::Answer;
+use terms::limits::LEVELS_MOST;
 
 // What a call answers: document 01's number, the place, and the verdict.
 #[repr(C)]

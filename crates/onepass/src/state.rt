@@ -8,15 +8,15 @@ ghost use Rattle.meaning.specs.Marks.{bitAt};
 ghost use Rattle.onepass.specs.Bytes.{wordAt};
 ghost use Rattle.onepass.specs.State.{stateSize, presenceIn, openPlace, lastPlace, bad};
 ghost use Rattle.onepass.specs.Step.{cleared, openedBytes, marked, rooted, closedBytes};
-ghost use Rattle.records.specs.Limits.{elementsMost, levelsMost};
+ghost use Rattle.terms.specs.Limits.{elementsMost, levelsMost};
 use crate::bytes::number_at;
 use crate::bytes::put_number;
 use crate::bytes::put_word;
 use crate::bytes::word_at;
 use crate::word::with_bit;
 use bits::bit_at;
-use records::limits::ELEMENTS_MOST;
-use records::limits::LEVELS_MOST;
+use terms::limits::ELEMENTS_MOST;
+use terms::limits::LEVELS_MOST;
 
 // How many bytes a state has.
 pub(crate) const STATE_BYTES: usize = 1040;

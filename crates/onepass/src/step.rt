@@ -3,9 +3,9 @@ ghost use mathlib.Core.Path.{_≡_};
 ghost use Rattle.meaning.specs.Marks.{meansHere};
 ghost use Rattle.meaning.specs.OnePass.{wordTo, stepBit};
 use bits::bit_at;
-use records::kind::Axis;
-use records::kind::Local;
-use records::kind::Shape;
+use terms::kind::Axis;
+use terms::kind::Local;
+use terms::kind::Shape;
 
 // Kinds 1 to 5 at an element with a label, from its bits.
 fn local_bit(k: Local, label: usize, own: usize, a: bool, b: bool) -> bool

@@ -4,11 +4,11 @@ ghost use mathlib.Core.Path.{_≡_};
 ghost use Rattle.onepass.specs.Walk.{unreadWalk, Walked, unaskedAhead, Asked};
 use crate::step::step_bit;
 use crate::word::add_bit;
-use records::answer::Answer;
-use records::kind::looks_back;
-use records::kind::row_of;
-use records::limits::RULE_MOST;
-use records::rule::take_entry;
+use rules::rule::take_entry;
+use terms::answer::Answer;
+use terms::kind::looks_back;
+use terms::kind::row_of;
+use terms::limits::RULE_MOST;
 
 // What a walk gives: the rule's answer; of the entries read, whether one looks ahead, and the word.
 pub struct Walk {

@@ -10,7 +10,7 @@ use Rattle.meaning.specs.Marks.{bit}
 use Rattle.text.specs.Decimal.{decimal}
 use Rattle.text.specs.Text.{space, lineFeed, field, phrase, elementLine}
 use Rattle.text.proofs.DecimalLaws.{decimal-short}
-use Rattle.records.specs.Limits.{elementsMost}
+use Rattle.terms.specs.Limits.{elementsMost}
 
 -- A field is one byte longer than its number.
 pub field-length : (x end : ℕ) → length (field x end) ≡ length (decimal x) + 1

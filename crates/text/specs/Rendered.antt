@@ -10,7 +10,7 @@ use lib.ListN.{length, getD}
 use lib.Seq.{sets}
 use Rattle.meaning.specs.Marks.{bitAt}
 use Rattle.text.specs.Text.{elementLines, acceptedText}
-use Rattle.records.specs.Limits.{elementsMost}
+use Rattle.terms.specs.Limits.{elementsMost}
 
 -- How many bytes the buffer has.
 abbrev pub bufferSize : ℕ

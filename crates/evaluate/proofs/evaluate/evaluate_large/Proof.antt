@@ -6,7 +6,7 @@ use lib.ListN.{length-replicate}
 use borrow.Author.Needs.{needs}
 use Rattle.evaluate.proofs.evaluate.evaluate_large.Statement.{statement}
 use Rattle.evaluate.proofs.evaluate.evaluate_large.Tie as tie
-use Rattle.records.specs.Limits.{elementsMost}
+use Rattle.terms.specs.Limits.{elementsMost}
 
 slice-aggregate-evaluate-within : tie.Need-slice-aggregate-evaluate-within
 slice-aggregate-evaluate-within c = search needs

@@ -1,12 +1,12 @@
 -- `evaluate_within`: the report reader's refusal first, then what `weigh` says of its tables. Assumes nothing.
 use native.Mathlib.Omega.{arith}
 use mathlib.Core.Path.{ap, sym, _∙_}
-use Rattle.records.specs.Answer.{placeOf}
-use Rattle.records.proofs.Bounds.{report-small}
+use Rattle.terms.specs.Answer.{placeOf}
 use Rattle.evaluate.proofs.EvaluateLaws.{elements-read, reported-refused, reported-accepted}
 use borrow.Author.Needs.{needs}
 use Rattle.evaluate.proofs.evaluate.evaluate_within.Statement.{statement}
 use Rattle.evaluate.proofs.evaluate.evaluate_within.Tie as tie
+use Rattle.reports.proofs.ElementLaws.{report-small}
 
 read-elements-requires : tie.Need-read-elements-requires
 read-elements-requires c κs = search needs

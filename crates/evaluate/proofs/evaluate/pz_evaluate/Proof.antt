@@ -3,11 +3,11 @@ use borrow.Author.Needs.{needs}
 use Prim.Native.Nat.{ℕ}
 use mathlib.Core.Path.{ap, sym, _∙_}
 use lib.ListN.{length-replicate}
-use Rattle.records.specs.Answer.{placeOf}
+use Rattle.terms.specs.Answer.{placeOf}
 use Rattle.evaluate.proofs.EvaluateLaws.{rule-place, filled-length, entries-read, evaluated-refused, evaluated-accepted}
 use Rattle.evaluate.proofs.evaluate.pz_evaluate.Statement.{statement}
 use Rattle.evaluate.proofs.evaluate.pz_evaluate.Tie as tie
-use Rattle.records.specs.Limits.{entriesMost}
+use Rattle.terms.specs.Limits.{entriesMost}
 
 read-entries-requires : tie.Need-read-entries-requires
 read-entries-requires c κs = search needs

@@ -2,7 +2,7 @@
 use native.Mathlib.Omega.{arith}
 use mathlib.Core.Path.{_∙_}
 use mathlib.Core.Bool.{false}
-use Rattle.records.specs.Tags.{tagFault}
+use Rattle.reports.specs.Tags.{tagFault}
 use Rattle.onepass.specs.State.{stateOf}
 use Rattle.onepass.proofs.CodeLaws.{tested-long, number-ahead, number-bad, number-fault}
 use borrow.Author.Needs.{needs}

@@ -2,7 +2,7 @@
 use native.Mathlib.Omega.{arith}
 use mathlib.Core.Path.{_∙_}
 use Rattle.onepass.proofs.CodeLaws.{tested-long}
-use Rattle.records.proofs.First.{clash}
+use Rattle.numbers.proofs.First.{clash}
 use borrow.Author.Needs.{needs}
 use Rattle.onepass.proofs.export.words_of.Statement.{statement}
 use Rattle.onepass.proofs.export.words_of.Tie as tie

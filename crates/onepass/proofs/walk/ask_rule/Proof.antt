@@ -4,15 +4,15 @@ use mathlib.Core.Path.{refl, ap}
 use Prim.Native.Nat.{_-_}
 use borrow.Author.Needs.{needs}
 use lib.ListN.{length}
-use Rattle.records.specs.Tables.{entriesBefore}
-use Rattle.records.specs.declared.kind.Row.{Row}
-use Rattle.records.proofs.Reading.{mid-start}
-use Rattle.records.proofs.RuleLaws.{Onward, rule-onward, rule-empty, rule-long}
-use Rattle.records.proofs.WalkLaws.{halts-ended, halts-faulty, entries-none, entries-many}
+use Rattle.terms.specs.declared.kind.Row.{Row}
+use Rattle.terms.proofs.Reading.{mid-start}
+use Rattle.rules.proofs.RuleLaws.{Onward, rule-onward, rule-empty, rule-long}
 use Rattle.onepass.specs.Step.{looksAhead}
 use Rattle.onepass.proofs.WalkLaws.{AskMid, ahead-then, ask-done, ask-none}
 use Rattle.onepass.proofs.walk.ask_rule.Statement.{statement}
 use Rattle.onepass.proofs.walk.ask_rule.Tie as tie
+use Rattle.rules.specs.Entries.{entriesBefore}
+use Rattle.rules.proofs.EntryLaws.{halts-ended, halts-faulty, entries-none, entries-many}
 
 abbrev Inv-loop : tie.InvT-loop
 Inv-loop rule at₀ n₀ ahead₀ at n ahead = AskMid rule n at ahead

@@ -3,11 +3,9 @@ use native.Mathlib.Omega.{arith}
 use mathlib.Core.Path.{refl, ap, _∙_}
 use Prim.Native.Nat.{_-_}
 use lib.ListN.{length}
-use Rattle.records.specs.Tables.{entriesBefore}
-use Rattle.records.specs.declared.kind.Row.{Row}
-use Rattle.records.proofs.Reading.{mid-start}
-use Rattle.records.proofs.RuleLaws.{Onward, rule-onward, rule-empty, rule-long}
-use Rattle.records.proofs.WalkLaws.{halts-ended, halts-faulty, entries-none, entries-many}
+use Rattle.terms.specs.declared.kind.Row.{Row}
+use Rattle.terms.proofs.Reading.{mid-start}
+use Rattle.rules.proofs.RuleLaws.{Onward, rule-onward, rule-empty, rule-long}
 use Rattle.meaning.specs.OnePass.{stepWord}
 use Rattle.onepass.specs.Step.{looksAhead}
 use Rattle.onepass.proofs.StepLaws.{step-small}
@@ -15,6 +13,8 @@ use Rattle.onepass.proofs.WalkLaws.{StepMid, word-more, ahead-then, wal
 use borrow.Author.Needs.{needs}
 use Rattle.onepass.proofs.walk.walk_rule.Statement.{statement}
 use Rattle.onepass.proofs.walk.walk_rule.Tie as tie
+use Rattle.rules.specs.Entries.{entriesBefore}
+use Rattle.rules.proofs.EntryLaws.{halts-ended, halts-faulty, entries-none, entries-many}
 
 abbrev Inv-loop : tie.InvT-loop
 Inv-loop rule label p q at₀ n₀ w₀ ahead₀ at n w ahead = StepMid rule label p q n at ahead w

@@ -1,0 +1,5 @@
+-- What is general about tests, lists and numbers.
+pub mod First
+pub mod Tells
+pub mod Lists
+pub mod Only

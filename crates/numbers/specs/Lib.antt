@@ -1,0 +1,4 @@
+-- Numbers as bytes, values in lists, and the first number that passes a test.
+pub mod Bytes
+pub mod Lists
+pub mod First
