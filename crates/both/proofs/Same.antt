@@ -13,7 +13,6 @@ use Rattle.terms.specs.declared.answer.Answer.the-variants.{Accepted}
 use Rattle.reports.proofs.TagLaws.{opened-append}
 use Rattle.grammar.specs.Bytes.{Bytes}
 use Rattle.grammar.proofs.Elements.{labels-accepted, elements-count, levels-elements}
-use Rattle.meaning.specs.Marks.{bit, bitAt}
 use Rattle.meaning.specs.OnePass.{LooksBack}
 use Rattle.evaluate.specs.Evaluation.{Evaluated}
 use Rattle.evaluate.specs.declared.evaluate.Evaluation.{Evaluation}
@@ -24,6 +23,7 @@ use Rattle.onepass.specs.declared.export.StepReply.{StepReply}
 use Rattle.onepass.proofs.Agrees.{tags-append, report-fed}
 use Rattle.rules.specs.Entries.{entriesOf}
 use Rattle.reports.specs.Elements.{labelsOf, levelsOf}
+use Rattle.numbers.specs.Bits.{bit, bitAt}
 
 -- An opening among an accepted report's tags is one of its elements.
 pub opening-there : (report : List ℕ) (n : ℕ) → reportAnswer report ≡ Accepted n → (before : List Call) (label : ℕ) (r : StepReply) (later : List Call)

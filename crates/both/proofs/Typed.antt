@@ -13,7 +13,7 @@ use Rattle.reports.specs.Report.{reportAnswer, tagsOf as tagsIn}
 use Rattle.reports.specs.Tags.{opens, opened}
 use Rattle.terms.specs.declared.answer.Answer.the-variants.{Accepted}
 use Rattle.grammar.specs.Bytes.{Bytes}
-use Rattle.meaning.specs.Marks.{bit, bitAt, wordOf}
+use Rattle.meaning.specs.Marks.{wordOf}
 use Rattle.meaning.specs.OnePass.{LooksBack}
 use Rattle.meaning.proofs.Reflect.{word-iff}
 use Rattle.evaluate.specs.Evaluation.{Evaluated}
@@ -40,6 +40,7 @@ use Rattle.typing.proofs.Answered.{zero-iff}
 use Rattle.both.proofs.Same.{opening-there}
 use Rattle.rules.specs.Entries.{entriesOf}
 use Rattle.reports.specs.Elements.{labelsOf, levelsOf}
+use Rattle.numbers.specs.Bits.{bit, bitAt}
 
 bit-one : (b : Bool) → (bit b ≡ 1) ↔ (b ≡ true)
 bit-one true = (λ e. refl, λ e. refl)

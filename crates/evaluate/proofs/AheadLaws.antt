@@ -16,7 +16,7 @@ use lib.Dec.{ltb, eqb}
 use lib.ListN.{length, getD, set, List·getD-eq-default}
 use Rattle.numbers.proofs.Tells.{and-one, holds, told-same, true-iff, eqb-told, and-told}
 use Rattle.meaning.specs.Tree.{forward}
-use Rattle.meaning.specs.Marks.{at, anyBelow, bit, bitAt, someOf}
+use Rattle.meaning.specs.Marks.{at, anyBelow, someOf}
 use Rattle.meaning.proofs.Ways.{at-iff}
 use Rattle.meaning.proofs.Tests.{ahead, at-told, some-told, bool-told}
 use Rattle.evaluate.specs.Links.{leads}
@@ -27,6 +27,7 @@ use Rattle.evaluate.specs.declared.ahead.Look.the-variants.{Until, Every
 use Rattle.evaluate.proofs.LinkLaws.{getD-any, leads-at, leads-down, leads-number, number-leads, leads-finds}
 use Rattle.evaluate.proofs.PassLaws.{at-put, passed-start, passed-same, passed-bit, passed-under, passed-join, passed-set}
 use Rattle.evaluate.proofs.StepLaws.{at-leads, ahead-own, anyFrom, anyFrom-end, anyFrom-next, anyFrom-all}
+use Rattle.numbers.specs.Bits.{bit, bitAt}
 
 or-false : (x : Bool) → (x || false) ≡ x
 or-false true = refl

@@ -22,8 +22,8 @@ use Rattle.grammar.proofs.WhenRule.{rule-numbers}
 use Rattle.grammar.proofs.WhenReport.{report-numbers}
 use Rattle.grammar.proofs.Entries.{entries-count, entries-few, rule-entries}
 use Rattle.grammar.proofs.Elements.{elements-count, levels-elements, levels-legal}
-use Rattle.meaning.specs.Marks.{words, selected, bitAt}
-use Rattle.meaning.proofs.Words.{bit-small, words-length}
+use Rattle.meaning.specs.Marks.{words, selected}
+use Rattle.meaning.proofs.Words.{words-length}
 use Rattle.evaluate.specs.Evaluation.{accepted, refused, judged, meantWords, evaluation, written, Evaluated, Reported, Weighed}
 use Rattle.evaluate.specs.Pass.{Marked}
 use Rattle.grammar.specs.Columns.{tableOf}
@@ -37,6 +37,8 @@ use Rattle.rules.proofs.EntryLaws.{rule-small, entries-taken-all}
 use Rattle.reports.proofs.ElementLaws.{report-small, taken-lists}
 use Rattle.numbers.proofs.Lists.{over-kept, over-length, over-is}
 use Rattle.terms.proofs.AnswerLaws.{accepts-of}
+use Rattle.numbers.specs.Bits.{bitAt}
+use Rattle.numbers.proofs.BitLaws.{bit-small}
 
 -- ---- a filled column
 

@@ -24,11 +24,11 @@ use Rattle.terms.specs.declared.kind.Shape.the-variants.{Nothing as nothing, He
 use Rattle.terms.specs.declared.kind.Local.{Local}
 use Rattle.terms.specs.declared.kind.Numbers.the-variants.{Entries}
 use Rattle.terms.specs.Kinds.{shapeOf, numbersOf, leadsBack}
-use Rattle.meaning.specs.Marks.{bit, bitAt, meansHere, means, mark, word, wordOf, words, selected, wordBits}
+use Rattle.meaning.specs.Marks.{meansHere, means, mark, wordOf, words, selected}
 use Rattle.meaning.proofs.Tests.{bool-told}
 use Rattle.meaning.proofs.Reflect.{means-told}
 use Rattle.meaning.proofs.OneStep.{mark-rule, plain}
-use Rattle.meaning.proofs.Words.{pred-sub, bit-small, word-bit, word-lt, words-length, words-at, selected-more}
+use Rattle.meaning.proofs.Words.{words-length, words-at, selected-more}
 use Rattle.evaluate.specs.Links.{leads, Linked}
 use Rattle.evaluate.specs.Pass.{Stored, Passed, Room, bitsOf, Marked}
 use Rattle.evaluate.specs.Steps.{alongMark, columnOf, aheadMark, Nearest}
@@ -40,6 +40,8 @@ use Rattle.grammar.proofs.Columns.{table-length, table-at}
 use Rattle.terms.specs.Limits.{entriesMost}
 use Rattle.numbers.specs.Lists.{over}
 use Rattle.numbers.proofs.Lists.{over-is, over-length, over-at, over-past}
+use Rattle.numbers.specs.Bits.{bit, bitAt, word, wordBits}
+use Rattle.numbers.proofs.BitLaws.{pred-sub, bit-small, word-bit, word-lt}
 
 -- ---- the table of passes
 

@@ -20,7 +20,7 @@ use Rattle.grammar.proofs.WhenRule.{rule-numbers}
 use Rattle.grammar.proofs.WhenReport.{report-numbers}
 use Rattle.grammar.proofs.Elements.{levels-elements}
 use Rattle.meaning.specs.Meaning.{Holds}
-use Rattle.meaning.specs.Marks.{bitAt, wordOf, words, selected, verdict}
+use Rattle.meaning.specs.Marks.{wordOf, words, selected, verdict}
 use Rattle.meaning.proofs.Words.{words-length, words-at, countBelow, selected-words}
 use Rattle.meaning.proofs.Reflect.{word-iff}
 use Rattle.evaluate.specs.Evaluation.{judged, meantWords, evaluation, written, Evaluated}
@@ -29,6 +29,7 @@ use Rattle.rules.specs.Entries.{entriesOf}
 use Rattle.reports.specs.Elements.{labelsOf, levelsOf}
 use Rattle.numbers.specs.Lists.{over}
 use Rattle.numbers.proofs.Lists.{over-at, over-past}
+use Rattle.numbers.specs.Bits.{bitAt}
 
 module _ (rule report marks : List ℕ) (r : Evaluation) (after : List ℕ) (e : Evaluated rule report marks r after) (zero : r .number ≡ 0) where
   -- Accepted: the counts are those of the meaning, and the buffer has room.

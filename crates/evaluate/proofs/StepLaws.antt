@@ -12,7 +12,7 @@ use lib.Dec.{leb, ltb}
 use lib.ListN.{length, getD}
 use Rattle.numbers.proofs.Tells.{Told, fails, told-same, leb-told, or-told, and-told}
 use Rattle.meaning.specs.Tree.{forward, backward}
-use Rattle.meaning.specs.Marks.{at, anyBelow, bitAt, someOf, everyOf}
+use Rattle.meaning.specs.Marks.{at, anyBelow, someOf, everyOf}
 use Rattle.meaning.proofs.Tests.{Finds, ahead, behind, bool-told, any-told, until-is}
 use Rattle.evaluate.specs.Links.{leads, leadsTo}
 use Rattle.evaluate.specs.Pass.{Passed, Room, bitsOf}
@@ -22,6 +22,7 @@ use Rattle.evaluate.specs.declared.ahead.Look.the-variants.{Until, Every
 use Rattle.evaluate.specs.declared.local.Gate.{Gate}
 use Rattle.evaluate.proofs.LinkLaws.{leads-at, leads-finds}
 use Rattle.evaluate.proofs.PassLaws.{before-only, ascent-word, passed-bit, passed-under}
+use Rattle.numbers.specs.Bits.{bitAt}
 
 -- At the element that a number leads to.
 pub at-leads : (s number : ℕ) (m : ℕ → Bool) → at (leadsTo s number) m ≡ (ltb number s && m number)

@@ -5,12 +5,13 @@ ghost use lib.Dec.{eqb};
 ghost use lib.ListN.{length, getD};
 ghost use Rattle.terms.specs.Kinds.{localNumbers};
 ghost use Rattle.terms.specs.declared.kind.Numbers.the-variants.{Entries};
-ghost use Rattle.meaning.specs.Marks.{bitAt, meansHere, wordBits};
+ghost use Rattle.meaning.specs.Marks.{meansHere};
 ghost use Rattle.evaluate.specs.Pass.{Passed, Room, bitsOf};
 ghost use Rattle.evaluate.specs.Steps.{gateMark};
 use crate::word::put_bit;
 use crate::word::wide;
 use terms::kind::Local;
+ghost use Rattle.numbers.specs.Bits.{bitAt, wordBits};
 
 // What kinds 1, 3, 4 and 5 make of two bits: an and, with the first bit, the second and the outcome each
 // inverted or not, in this order. With the gate of its kind an entry's loop has no branch, and takes

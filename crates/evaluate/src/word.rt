@@ -3,7 +3,7 @@ ghost use mathlib.Core.Path.{_≡_};
 ghost use mathlib.Core.Bool.{_&&_};
 ghost use Prim.Native.Nat.{_+_, _*_, _^_, _%_, _<_};
 ghost use lib.Bits.{bitOr};
-ghost use Rattle.meaning.specs.Marks.{bit, bitAt, wordBits};
+ghost use Rattle.numbers.specs.Bits.{bit, bitAt, wordBits};
 
 // A number of a column, as an index.
 pub(crate) fn wide(x: u16) -> usize

@@ -22,9 +22,10 @@ use Rattle.grammar.proofs.WhenReport.{report-accepted-iff, report-last}
 use Rattle.grammar.proofs.ReportBytes.{clean-fit, tags-are, tree-accepted}
 use Rattle.terms.specs.Limits.{elementsMost}
 use Rattle.reports.specs.Elements.{labelsOf, levelsOf}
+use Rattle.numbers.specs.Lists.{listed}
 
 tags-length : (s : List ℕ) (i : ℕ) → length (tagsBefore s i) ≡ i
-unfolding tagsBefore
+unfolding listed
 tags-length s zero = refl
 tags-length s (suc i) = length-append (tagsBefore s i) _ ∙ omega (arith, tags-length s i)
 

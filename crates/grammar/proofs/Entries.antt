@@ -1,14 +1,12 @@
 -- What the layers above need of a rule's entries, as laws of `entriesOf`, for every list: how many there are, and that each is well
 -- formed at its place; from that, the ranges of its kind, its entry numbers and its label. Assumes nothing.
 use Prim.Native.Nat.{ℕ, zero, suc, _≤_, _<_}
-use native.Mathlib.Nat.{eq-or-lt-of-le, le-of-suc-le-suc}
 use native.Mathlib.Omega.{arith}
 use native.Mathlib.Decide.{decLt}
 use mathlib.Core.Path.{_≡_, refl, ap, _∙_}
-use mathlib.Core.List.{List, []}
+use mathlib.Core.List.{List}
 use mathlib.Core.Logic.{inl, inr}
-use lib.ListN.{length, getD, List·getD-append}
-use lib.Seq.{getD-at}
+use lib.ListN.{length, getD}
 use borrow.Author.Tests.{lt-leb}
 use Rattle.terms.specs.Answer.{countOf}
 use Rattle.terms.specs.Frame.{kindAt, startOf}
@@ -26,6 +24,7 @@ use Rattle.grammar.proofs.WhenRule.{fault-0-iff, rule-accepted-iff}
 use Rattle.terms.specs.Limits.{entriesMost, labelMost, ruleMost}
 use Rattle.rules.specs.Entries.{entriesBefore, entriesOf}
 use Rattle.rules.proofs.EntryLaws.{entries-length}
+use Rattle.numbers.proofs.Lists.{listed-at}
 
 -- ---- a well-formed entry
 
@@ -77,13 +76,7 @@ module _ (s : List ℕ) where
 
   -- Entry i is the one read at record i.
   pub before-at : (n i : ℕ) → i < n → getD (entriesBefore s n) i noEntry ≡ entryAt s (startOf s i)
-  unfolding entriesBefore
-  before-at zero i l = absurd (omega arith)
-  before-at (suc n) i l =
-      elim (eq-or-lt-of-le (le-of-suc-le-suc l)) [
-        | inl e ↦ rw e (getD-at (entriesBefore s n) (entryAt s (startOf s n)) [] noEntry n (entries-length s n))
-        | inr m ↦ List·getD-append (entriesBefore s n) _ noEntry i (omega (arith, entries-length s n)) ∙ before-at n i m
-      ]
+  before-at n i l = listed-at n _ i noEntry l
 
   -- ---- the entries of a rule
 

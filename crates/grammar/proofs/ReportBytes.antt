@@ -27,6 +27,7 @@ use Rattle.grammar.proofs.Frame.{Sound, sound-unfaulty, unfaulty-sound,
 use Rattle.grammar.proofs.Fits.{fit-snoc}
 use Rattle.grammar.proofs.Trees.{bytes-append, bytes-size, tree-some, tags-size, tags-start-only, tags-only, legal-tree, tree-legal}
 use Rattle.grammar.proofs.WhenReport.{record-0-iff, clean-unfaulty, report-accepted-iff, report-last}
+use Rattle.numbers.specs.Lists.{listed}
 
 -- ---- reading where a tag was written
 
@@ -85,7 +86,7 @@ below-more : (P : ℕ → Type 0) (n : ℕ) → ((j : ℕ) → j < n → P j) �
 below-more P n h z j l = ⊎-elim (λ e. subst P (sym e) z) (h j) (eq-or-lt-of-le (le-of-suc-le-suc l))
 
 reads-more : (us : List Tag) (t : Tag) (ys s : List ℕ) → s ≡ bytesOf us ++ (tagBytes t ++ ys) → Reads s us → Reads s (us ++ (t ∷ []))
-unfolding startOf tagsBefore
+unfolding startOf listed
 reads-more us t ys s e r =
     let tag : tagAt s (startOf s (length us)) ≡ t = rw (r .starts, e) (tag-front (bytesOf us) (tagBytes t ++ ys) ∙ tag-back t ys) in
     let unfaulty : Sound reportLength s (startOf s (length us)) = rw (r .starts, e) (sound-front (bytesOf us) (tagBytes t ++ ys) (sound-back t ys)) in
@@ -109,7 +110,7 @@ reads-all (t ∷ ts) us rest s e r =
 
 -- Where a list begins with the bytes of some tags, its first records are those of the tags.
 pub tags-back : (ts : List Tag) (rest s : List ℕ) → s ≡ bytesOf ts ++ rest → Reads s ts
-unfolding bytesOf startOf tagsBefore
+unfolding bytesOf startOf listed
 tags-back ts rest s e = reads-all ts [] rest s e (record { starts = refl; reads = refl; whole = λ j l. absurd (not-suc-le-zero l) })
 
 -- Two starts at one place are those of one record.
@@ -164,7 +165,7 @@ module _ (s : List ℕ) (bytes : Bytes s) where
   -- Where its first i records are not faulty, a byte string is the bytes of their tags, and then what is left.
   bytes-read : (i : ℕ) → ((j : ℕ) → j < i → Faulty reportLength s (startOf s j) → ⊥)
       → s ≡ bytesOf (tagsBefore s i) ++ drop (startOf s i) s
-  unfolding bytesOf startOf tagsBefore
+  unfolding bytesOf startOf listed
   bytes-read zero h = refl
   bytes-read (suc i) h =
       let at = startOf s i in
@@ -179,7 +180,7 @@ module _ (s : List ℕ) (bytes : Bytes s) where
 module _ (s : List ℕ) where
   -- Where the first i records get no number, their tags fit.
   pub clean-fit : (i : ℕ) → ((j : ℕ) → j < i → reportFault s j ≡ 0) → Fit 0 0 (tagsBefore s i)
-  unfolding reportFault tagsBefore Fit
+  unfolding reportFault listed Fit
   clean-fit zero h = tt
   clean-fit (suc i) h =
       fit-snoc (tagsBefore s i) (tagAt s (startOf s i)) .1
@@ -188,7 +189,7 @@ module _ (s : List ℕ) where
   -- Where the first i records are not faulty and their tags fit, they get no number.
   fit-clean : (i : ℕ) → Fit 0 0 (tagsBefore s i) → ((j : ℕ) → j < i → Faulty reportLength s (startOf s j) → ⊥)
       → (j : ℕ) → j < i → reportFault s j ≡ 0
-  unfolding reportFault tagsBefore
+  unfolding reportFault listed
   fit-clean zero f h j l = absurd (not-suc-le-zero l)
   fit-clean (suc i) f h j l =
       let r = fit-snoc (tagsBefore s i) (tagAt s (startOf s i)) .0 f in
@@ -257,7 +258,7 @@ report-only t u e = tags-only t u (bytes-only (tagsT t) (tagsT u) e)
 
 -- What is read before a record begins with what is read before an earlier one.
 tags-begin : (s : List ℕ) (m n : ℕ) → m ≤ n → (vs : List Tag) × (tagsBefore s n ≡ tagsBefore s m ++ vs)
-unfolding tagsBefore
+unfolding listed
 tags-begin s m zero h = let e : m ≡ 0 = omega arith in ([], rw e refl)
 tags-begin s m (suc n) h =
     ⊎-elim (λ e. ([], rw e (sym (append-nil (tagsBefore s (suc n))))))

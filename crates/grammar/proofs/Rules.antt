@@ -26,6 +26,7 @@ use Rattle.grammar.proofs.WhenRule.{fault-0-iff, rule-accepted-iff}
 use Rattle.terms.specs.Limits.{entriesMost, ruleMost}
 use Rattle.rules.specs.Entries.{entriesBefore, entriesOf}
 use Rattle.rules.proofs.EntryLaws.{entries-length}
+use Rattle.numbers.specs.Lists.{listed}
 
 rule-append : (es fs : List Entry) → ruleBytes (es ++ fs) ≡ ruleBytes es ++ ruleBytes fs
 unfolding ruleBytes
@@ -37,7 +38,7 @@ rule-append (e ∷ es) fs = rw (rule-append es fs, append-assoc)
 module _ (s : List ℕ) (bytes : Bytes s) where
   -- The bytes up to record i are those of the entries before it.
   bytes-before : (i : ℕ) → ((j : ℕ) → j < i → ruleFaults s j ≡ 0) → ruleBytes (entriesBefore s i) ≡ take (startOf s i) s
-  unfolding ruleBytes entriesBefore startOf nextOf
+  unfolding ruleBytes listed startOf nextOf
   bytes-before zero clean = refl
   bytes-before (suc i) clean =
       let at = startOf s i in

@@ -21,7 +21,6 @@ use Rattle.grammar.proofs.WhenReport.{report-numbers}
 use Rattle.grammar.proofs.Entries.{entries-count, entries-some}
 use Rattle.grammar.proofs.Elements.{elements-count, levels-elements, elements-few}
 use Rattle.meaning.specs.Marks.{verdict, selected}
-use Rattle.meaning.proofs.Words.{pred-sub}
 use Rattle.evaluate.specs.Evaluation.{judged, evaluation, meantWords, Evaluated}
 use Rattle.evaluate.specs.declared.evaluate.Evaluation.{Evaluation}
 use Rattle.evaluate.proofs.Means.{counted, word-is}
@@ -31,9 +30,10 @@ use Rattle.judge.specs.Output.{room, acceptedRecord, toldAs, judgedRecor
 use Rattle.terms.specs.Limits.{elementsMost}
 use Rattle.rules.specs.Entries.{entriesOf}
 use Rattle.reports.specs.Elements.{labelsOf, levelsOf, ElementsTaken}
-use Rattle.numbers.specs.Lists.{over}
+use Rattle.numbers.specs.Lists.{listed, over}
 use Rattle.numbers.proofs.Lists.{over-at}
 use Rattle.reports.proofs.ElementLaws.{taken-lists}
+use Rattle.numbers.proofs.BitLaws.{pred-sub}
 
 -- ---- lines that agree
 
@@ -41,7 +41,7 @@ module _ (labels levels labels′ levels′ : List ℕ) (v v′ : ℕ → Bool) 
   -- Tables that agree on the first n elements have the same lines for these.
   pub lines-same : (n : ℕ) → ((k : ℕ) → k < n → lineOf labels levels v k ≡ lineOf labels′ levels′ v′ k)
       → elementLines labels levels v n ≡ elementLines labels′ levels′ v′ n
-  unfolding elementLines
+  unfolding elementLines listed
   lines-same zero same = refl
   lines-same (suc n) same =
       ap (λ (ls : List (List ℕ)). ls ++ (lineOf labels levels v n ∷ [])) (lines-same n (λ k h. same k (omega arith)))

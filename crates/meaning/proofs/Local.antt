@@ -26,7 +26,7 @@ use Rattle.meaning.specs.OnePass.{LooksBack}
 use Rattle.meaning.proofs.Links.{Agree, link-prefix}
 use Rattle.meaning.proofs.Tests.{found-down, until-is}
 use Rattle.meaning.proofs.Reflect.{axis-along}
-use Rattle.meaning.proofs.Words.{word-same}
+use Rattle.numbers.proofs.BitLaws.{word-same}
 
 -- Tests that agree at the element that is found pass alike there.
 at-same : (o : Option ℕ) (p q : ℕ → Bool) → ((t : ℕ) → o ≡ some t → p t ≡ q t) → at o p ≡ at o q

@@ -20,10 +20,11 @@ use Rattle.terms.specs.declared.kind.Shape.{Shape}
 use Rattle.terms.specs.declared.kind.Shape.the-variants.{Nothing as nothing, Here as local, SomeAlong as someAlong, UntilAlong as untilAlong, EveryChild as everyChild}
 use Rattle.terms.specs.Kinds.{shapeOf, leadsBack}
 use Rattle.meaning.specs.Meaning.{MeansHere, Means, Below, Holds}
-use Rattle.meaning.specs.Marks.{meansHere, means, below, mark, bitAt, wordOf, verdict}
+use Rattle.meaning.specs.Marks.{meansHere, means, below, mark, wordOf, verdict}
 use Rattle.meaning.proofs.Links.{parent-is, parent-down, previous-is, previous-down}
 use Rattle.meaning.proofs.Tests.{ToldBelow, Finds, Along, ahead, behind, nearer, some-told, every-told, until-told}
 use Rattle.meaning.proofs.Words.{wordOf-bit, verdict-is}
+use Rattle.numbers.specs.Bits.{bitAt}
 
 -- Parents find the child relation among a report's elements, and previous siblings the next-sibling relation.
 parent-finds : (levels : List ℕ) → Finds (Child levels) (parent levels) (length levels)

@@ -20,12 +20,14 @@ use Rattle.meaning.specs.Links.{parent, previous, link}
 use Rattle.terms.specs.declared.kind.Shape.{Shape}
 use Rattle.terms.specs.declared.kind.Shape.the-variants.{Nothing as nothing, Here as local, SomeAlong as someAlong, UntilAlong as untilAlong, EveryChild as everyChild}
 use Rattle.terms.specs.Kinds.{rowOf, shapeOf, leadsBack, shapeLooksBack}
-use Rattle.meaning.specs.Marks.{at, someOf, meansHere, means, mark, bitAt, word, wordOf}
+use Rattle.meaning.specs.Marks.{at, someOf, meansHere, means, mark, wordOf}
 use Rattle.meaning.specs.OnePass.{LooksBack, wordTo, stepBit, stepWord}
 use Rattle.meaning.proofs.Tests.{until-is}
 use Rattle.meaning.proofs.Reflect.{axis-along}
 use Rattle.meaning.proofs.OneStep.{mark-rule}
-use Rattle.meaning.proofs.Words.{word-bit, wordOf-bit}
+use Rattle.meaning.proofs.Words.{wordOf-bit}
+use Rattle.numbers.specs.Bits.{bitAt, word}
+use Rattle.numbers.proofs.BitLaws.{word-bit}
 
 -- The word of an element that is found; 0 where there is none.
 abbrev pub foundWord : (ℕ → ℕ) → Option ℕ → ℕ

@@ -18,8 +18,9 @@ use Rattle.terms.specs.declared.kind.Axis.the-variants.{Child as child, Parent 
 use Rattle.terms.specs.declared.kind.Shape.{Shape}
 use Rattle.terms.specs.declared.kind.Shape.the-variants.{Nothing as nothing, Here as local, SomeAlong as someAlong, UntilAlong as untilAlong, EveryChild as everyChild}
 use Rattle.terms.specs.Kinds.{shapeOf}
-use Rattle.meaning.specs.Marks.{bit, bitAt, meansHere}
+use Rattle.meaning.specs.Marks.{meansHere}
 use Rattle.terms.specs.Limits.{levelsMost}
+use Rattle.numbers.specs.Bits.{bit, bitAt}
 
 -- How many elements are open and have been opened, whether the root is closed, and for each of 64 levels a presence bit, an open
 -- word and a last word.

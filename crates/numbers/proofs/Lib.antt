@@ -2,4 +2,5 @@
 pub mod First
 pub mod Tells
 pub mod Lists
+pub mod BitLaws
 pub mod Only

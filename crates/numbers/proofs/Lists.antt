@@ -1,13 +1,40 @@
--- Laws of values stored in a lent list: one value more, and what stands where afterwards. Assumes nothing.
-use Prim.Native.Nat.{ℕ, suc, _+_, _-_, _≤_, _<_}
+-- Laws of the values below a number, and of values stored in a lent list: one value more, and what stands where afterwards.
+-- Assumes nothing.
+use Prim.Native.Nat.{ℕ, zero, suc, _+_, _-_, _≤_, _<_}
 use native.Mathlib.Omega.{arith}
-use native.Mathlib.Nat.{add-zero, zero-add}
+use native.Mathlib.Nat.{add-zero, zero-add, eq-or-lt-of-le, le-of-suc-le-suc, not-suc-le-zero}
+use native.Mathlib.Numerals.{add-one}
 use mathlib.Core.Path.{_≡_, refl, sym, ap, _∙_}
 use mathlib.Core.List.{List, [], _∷_, _++_}
-use lib.ListN.{length, getD, set, drop, List·getD-append}
-use lib.Seq.{sets, length-sets, sets-eq, getD-append-add, getD-drop}
-use Rattle.numbers.specs.First.{first}
-use Rattle.numbers.specs.Lists.{over}
+use mathlib.Core.Logic.{⊎-elim}
+use lib.ListN.{length, getD, set, drop, length-append, List·getD-append}
+use lib.Seq.{sets, length-sets, sets-eq, getD-append-add, getD-drop, getD-at, ext-getD}
+use Rattle.numbers.specs.Lists.{listed, over}
+
+-- ---- the values below a number
+
+module _ {A : Type 0} where
+  -- There is a place for each number below n.
+  pub listed-length : (n : ℕ) (f : ℕ → A) → length (listed n f) ≡ n
+  unfolding listed
+  listed-length zero f = refl
+  listed-length (suc n) f = length-append (listed n f) (f n ∷ []) ∙ add-one (length (listed n f)) ∙ ap suc (listed-length n f)
+
+  -- Place i holds the value at i.
+  pub listed-at : (n : ℕ) (f : ℕ → A) (i : ℕ) (d : A) → i < n → getD (listed n f) i d ≡ f i
+  unfolding listed
+  listed-at zero f i d l = absurd (not-suc-le-zero l)
+  listed-at (suc n) f i d l =
+      ⊎-elim (λ e. rw e (getD-at (listed n f) (f n) [] d n (listed-length n f)))
+      (λ m. List·getD-append (listed n f) (f n ∷ []) d i (omega (arith, listed-length n f)) ∙ listed-at n f i d m)
+      (eq-or-lt-of-le (le-of-suc-le-suc l))
+
+  -- A list is that of some values where it has as many places and each holds its value.
+  pub listed-only : (n : ℕ) (f : ℕ → A) (xs : List A) (d : A) → length xs ≡ n → ((i : ℕ) → i < n → f i ≡ getD xs i d) → listed n f ≡ xs
+  listed-only n f xs d e h =
+      ext-getD d _ xs (listed-length n f ∙ sym e) (λ i l. let m : i < n = omega (arith, listed-length n f) in listed-at n f i d m ∙ h i m)
+
+-- ---- values stored in a lent list
 
 -- No value: the list as it was.
 pub over-none : (lent : List ℕ) → over [] lent ≡ lent

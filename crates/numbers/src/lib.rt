@@ -1,2 +1,3 @@
-// Numbers as bytes: the lowest layer. No function has a `requires`: a byte that is not there counts 0.
+// Numbers as bytes and as bits: the lowest layer.
+pub mod bits;
 pub mod bytes;

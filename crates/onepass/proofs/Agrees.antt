@@ -23,7 +23,7 @@ use Rattle.grammar.specs.Reports.{bytesOf}
 use Rattle.grammar.proofs.ReportBytes.{accepted-tree, tags-are}
 use Rattle.grammar.proofs.Trees.{bytes-append}
 use Rattle.grammar.proofs.Entries.{entries-few, rule-entries}
-use Rattle.meaning.specs.Marks.{bit, bitAt, wordOf, verdict}
+use Rattle.meaning.specs.Marks.{wordOf, verdict}
 use Rattle.meaning.specs.OnePass.{fresh, LooksBack, fault, openedVerdict, afterAll, Taken}
 use Rattle.meaning.proofs.Agrees.{verdict-agrees as table-agrees}
 use Rattle.meaning.proofs.Taken.{taken-append, taken-fit, after-append}
@@ -37,6 +37,7 @@ use Rattle.onepass.proofs.CallLaws.{call-taken, call-number, written-st
 use Rattle.onepass.proofs.Begins.{report-begins, fit-goes-on}
 use Rattle.rules.specs.Entries.{entriesOf}
 use Rattle.reports.specs.Elements.{levelsOf, labelsOf}
+use Rattle.numbers.specs.Bits.{bit, bitAt}
 
 -- ---- one call
 

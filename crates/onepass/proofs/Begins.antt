@@ -21,12 +21,13 @@ use Rattle.grammar.proofs.TagRows.{opens-well-iff, closes-well-iff}
 use Rattle.grammar.proofs.Trees.{bytes-append, legal-tree}
 use Rattle.onepass.specs.Calls.{Begins}
 use Rattle.terms.specs.Limits.{labelMost}
+use Rattle.numbers.specs.Lists.{listed}
 
 -- ---- the tags of such a report
 
 -- The tags of the first records begin those of more records.
 before-begins : (s : List ℕ) (k j : ℕ) → (more : List Tag) × (tagsBefore s (k + j) ≡ tagsBefore s k ++ more)
-unfolding tagsBefore
+unfolding listed
 before-begins s k zero = ([], ap (tagsBefore s) (add-zero k) ∙ sym (append-nil (tagsBefore s k)))
 before-begins s k (suc j) =
     let r = before-begins s k j in

@@ -9,9 +9,9 @@ use borrow.Author.Tests.{eq-eqb, ne-eqb}
 use lib.Bits.{bitOr, or-shifted-r}
 use lib.Dec.{eqb}
 use lib.Pow.{pow-pos, pow-add, high, low, split, shl-exact, shr-shr, field, mod-mod-pow}
-use Rattle.meaning.specs.Marks.{bit, bitAt, wordBits}
-use Rattle.meaning.proofs.Words.{bit-small, word-lt, word-bit, word-only}
 use Rattle.onepass.specs.Bytes.{withBit}
+use Rattle.numbers.specs.Bits.{bit, bitAt, wordBits}
+use Rattle.numbers.proofs.BitLaws.{bit-small, word-lt, word-bit, word-only}
 
 -- A bit added above i bits, as the machine adds it.
 pub add-bit-is : (i w : ℕ) (on : Bool) → i < wordBits → w < 2 ^ i → bitOr w ((bit on * 2 ^ i) % 2 ^ wordBits) ≡ bit on * 2 ^ i + w

@@ -14,7 +14,6 @@ use Rattle.rules.specs.declared.rule.Entry.{Entry}
 use Rattle.reports.specs.Tags.{Tag, opens, closes, tagFault}
 use Rattle.reports.proofs.ReportLaws.{open-sound, close-sound}
 use Rattle.grammar.specs.Bytes.{Bytes}
-use Rattle.meaning.specs.Marks.{bit, bitAt, wordBits}
 use Rattle.meaning.specs.OnePass.{State, fault, stepWord, openedWord, openedVerdict, opened, closed, after}
 use Rattle.onepass.specs.Bytes.{wordAt}
 use Rattle.onepass.specs.State.{depthIn, elementsIn, rootIn, presenceIn, openPlace, lastPlace, stateOf, bad, Good}
@@ -26,6 +25,7 @@ use Rattle.onepass.proofs.StateLaws.{state-same, good-iff, listed-at, p
 use Rattle.onepass.proofs.StateLaws.{opened-root, opened-spare, opened-open, opened-last, opened-presence, closed-depth}
 use Rattle.onepass.proofs.StateLaws.{closed-elements, closed-root, closed-spare, closed-last, closed-open, closed-presence}
 use Rattle.terms.specs.Limits.{elementsMost, levelsMost, outside}
+use Rattle.numbers.specs.Bits.{bit, bitAt, wordBits}
 
 -- ---- when a call is taken
 

@@ -17,18 +17,18 @@ use Rattle.onepass.specs.declared.walk.Walk.{Walk}
 use Rattle.onepass.specs.declared.walk.Ahead.{Ahead}
 use Rattle.reports.specs.Tags.{Tag, opens, closes}
 use Rattle.grammar.proofs.Entries.{entries-count, entries-some}
-use Rattle.meaning.specs.Marks.{bit, bitAt}
 use Rattle.meaning.specs.OnePass.{fault, stepWord, openedWord}
 use Rattle.onepass.specs.State.{stateSize, depthIn, elementsIn, stateOf, bad}
 use Rattle.onepass.specs.Step.{reply, startAnswer, startAfter, openedBytes, closedBytes, looksAhead, callNumber, answerOf, stateAfter}
 use Rattle.onepass.specs.Step.{Started, Answered}
 use Rattle.onepass.specs.declared.export.StepReply.{StepReply}
-use Rattle.meaning.proofs.Words.{pred-sub}
 use Rattle.onepass.proofs.StateLaws.{good-iff}
 use Rattle.onepass.proofs.CallLaws.{call-taken, opened-is, closed-is, opened-read, opens-room, closes-room}
 use Rattle.terms.specs.Limits.{elementsMost, entriesMost, levelsMost, ruleMost}
 use Rattle.rules.specs.Entries.{entriesOf, entriesRead}
 use Rattle.rules.proofs.EntryLaws.{entries-taken-all, rule-small}
+use Rattle.numbers.specs.Bits.{bit, bitAt}
+use Rattle.numbers.proofs.BitLaws.{pred-sub}
 
 -- ---- start
 

@@ -16,7 +16,6 @@ use lib.Seq.{ext-getD, getD-set-same, getD-set-other}
 use Rattle.rules.specs.declared.rule.Entry.{Entry}
 use Rattle.grammar.specs.Bytes.{Bytes}
 use Rattle.numbers.proofs.Tells.{Told, false-iff, told-stable, eqb-told, ltb-told, not-told, or-told, and-told}
-use Rattle.meaning.specs.Marks.{bitAt, wordBits}
 use Rattle.meaning.specs.OnePass.{State, fresh, parentWord, siblingWord}
 use Rattle.onepass.specs.Bytes.{wordAt, putAt, withBit}
 use Rattle.onepass.specs.State.{stateSize, depthIn, elementsIn, rootIn, presenceIn, openPlace, lastPlace, listed, stateOf, bad, Good}
@@ -24,6 +23,7 @@ use Rattle.onepass.specs.Step.{cleared, openedBytes, marked, rooted, clo
 use Rattle.onepass.proofs.ByteLaws.{put-length, word-other, word-put}
 use Rattle.onepass.proofs.BitLaws.{with-bit-small, with-bit-at}
 use Rattle.terms.specs.Limits.{elementsMost, levelsMost}
+use Rattle.numbers.specs.Bits.{bitAt, wordBits}
 
 -- Two states with the same parts are one.
 pub state-same : {d d′ e e′ : ℕ} {r r′ : Bool} {p p′ : List Bool} {o o′ l l′ : List ℕ} → d ≡ d′ → e ≡ e′ → r ≡ r′ → p ≡ p′ → o ≡ o′ → l ≡ l′

@@ -11,8 +11,8 @@ use Rattle.terms.specs.Kinds.{looksBack}
 use Rattle.grammar.specs.Rules.{noEntry}
 use Rattle.terms.specs.Kinds.{shapeOf}
 use Rattle.meaning.specs.OnePass.{stepBit, stepWord}
-use Rattle.meaning.proofs.Words.{bit-le}
 use Rattle.onepass.specs.Step.{looksAhead}
+use Rattle.numbers.proofs.BitLaws.{bit-le}
 
 -- ---- an entry that looks ahead
 

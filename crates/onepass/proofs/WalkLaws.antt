@@ -14,7 +14,6 @@ use Rattle.terms.specs.declared.kind.Shape.{Shape}
 use Rattle.rules.specs.Rule.{entryAt, ruleAnswer}
 use Rattle.rules.proofs.RuleLaws.{RuleMid}
 use Rattle.grammar.specs.Rules.{noEntry}
-use Rattle.meaning.specs.Marks.{bit}
 use Rattle.terms.specs.Kinds.{shapeOf}
 use Rattle.meaning.specs.OnePass.{stepBit, stepWord}
 use Rattle.onepass.specs.Step.{looksAhead}
@@ -23,6 +22,7 @@ use Rattle.onepass.proofs.StepLaws.{ahead-more}
 use Rattle.terms.specs.Limits.{entriesMost}
 use Rattle.rules.specs.Entries.{entriesBefore, entriesRead}
 use Rattle.rules.proofs.EntryLaws.{entries-length, Halted, entries-more}
+use Rattle.numbers.specs.Bits.{bit}
 
 -- Entries behind the first m play no part in their word.
 step-prefix : (es fs : List Entry) (label p q m : ℕ) → m ≤ length es → stepWord (es ++ fs) label p q m ≡ stepWord es label p q m

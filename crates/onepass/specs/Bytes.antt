@@ -5,8 +5,7 @@ use mathlib.Core.Bool.{Bool, cond}
 use mathlib.Core.List.{List}
 use lib.Dec.{eqb}
 use lib.ListN.{getD, set}
-use Rattle.meaning.specs.Marks.{bitAt, word}
-use Rattle.meaning.specs.Marks.{wordBits}
+use Rattle.numbers.specs.Bits.{bitAt, word, wordBits}
 
 -- The number whose k bytes stand at an offset.
 unfoldable pub wordAt : ℕ → List ℕ → ℕ → ℕ

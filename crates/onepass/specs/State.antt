@@ -9,10 +9,10 @@ use mathlib.Core.Bool.{Bool, not, _&&_, _||_}
 use mathlib.Core.List.{List, [], _∷_}
 use lib.Dec.{eqb, ltb}
 use lib.ListN.{length, getD}
-use Rattle.meaning.specs.Marks.{bitAt}
 use Rattle.meaning.specs.OnePass.{State}
 use Rattle.onepass.specs.Bytes.{wordAt}
 use Rattle.terms.specs.Limits.{elementsMost, levelsMost}
+use Rattle.numbers.specs.Bits.{bitAt}
 
 -- The size of a state.
 abbrev pub stateSize : ℕ

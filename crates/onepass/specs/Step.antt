@@ -14,12 +14,12 @@ use Rattle.rules.specs.declared.rule.Entry.{Entry}
 use Rattle.terms.specs.Kinds.{looksBack}
 use Rattle.rules.specs.Rule.{ruleAnswer}
 use Rattle.reports.specs.Tags.{Tag, opens, closes}
-use Rattle.meaning.specs.Marks.{bit}
 use Rattle.meaning.specs.OnePass.{State, fault, openedWord, openedVerdict}
 use Rattle.onepass.specs.Bytes.{wordAt, putAt, withBit}
 use Rattle.onepass.specs.State.{stateSize, depthIn, elementsIn, presenceIn, openPlace, lastPlace, stateOf, bad}
 use Rattle.onepass.specs.declared.export.StepReply.{StepReply}
 use Rattle.rules.specs.Entries.{entriesOf}
+use Rattle.numbers.specs.Bits.{bit}
 
 -- An answer has a number, a place and a verdict.
 abbrev pub reply : (number place verdict : ℕ) → StepReply

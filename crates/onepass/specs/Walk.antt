@@ -12,13 +12,13 @@ use Rattle.onepass.specs.Step.{looksAhead, callNumber, Answered}
 use Rattle.onepass.specs.Bytes.{wordAt}
 use Rattle.onepass.specs.State.{presenceIn, depthIn, openPlace, lastPlace, stateOf, bad}
 use Rattle.onepass.specs.declared.export.StepReply.{StepReply}
-use Rattle.meaning.specs.Marks.{bitAt}
 use Rattle.reports.specs.Tags.{opens}
 use Rattle.rules.specs.declared.rule.Entry.{Entry}
 use Rattle.onepass.specs.declared.walk.Walk.{Walk}
 use Rattle.onepass.specs.declared.walk.Ahead.{Ahead}
 use Rattle.terms.specs.Limits.{levelsMost}
 use Rattle.rules.specs.Entries.{entriesRead}
+use Rattle.numbers.specs.Bits.{bitAt}
 
 abbrev pub unreadWalk : Walk
 unreadWalk = record { answer = Refused 1 0; ahead = false; word = 0 }

@@ -17,7 +17,7 @@ use crate::state::store_closing;
 use crate::state::store_opening;
 use crate::walk::ask_rule;
 use crate::walk::walk_rule;
-use bits::bit_at;
+use numbers::bits::bit_at;
 use reports::report::close_fault;
 use reports::report::open_fault;
 use terms::answer::Answer;

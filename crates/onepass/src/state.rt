@@ -4,7 +4,6 @@ ghost use mathlib.Core.Bool.{cond};
 ghost use Prim.Native.Nat.{pred, _<_, _≤_};
 ghost use lib.Dec.{eqb};
 ghost use lib.ListN.{length};
-ghost use Rattle.meaning.specs.Marks.{bitAt};
 ghost use Rattle.onepass.specs.Bytes.{wordAt};
 ghost use Rattle.onepass.specs.State.{stateSize, presenceIn, openPlace, lastPlace, bad};
 ghost use Rattle.onepass.specs.Step.{cleared, openedBytes, marked, rooted, closedBytes};
@@ -14,9 +13,10 @@ use crate::bytes::put_number;
 use crate::bytes::put_word;
 use crate::bytes::word_at;
 use crate::word::with_bit;
-use bits::bit_at;
+use numbers::bits::bit_at;
 use terms::limits::ELEMENTS_MOST;
 use terms::limits::LEVELS_MOST;
+ghost use Rattle.numbers.specs.Bits.{bitAt};
 
 // How many bytes a state has.
 pub(crate) const STATE_BYTES: usize = 1040;

@@ -2,7 +2,7 @@
 ghost use mathlib.Core.Path.{_≡_};
 ghost use Rattle.meaning.specs.Marks.{meansHere};
 ghost use Rattle.meaning.specs.OnePass.{wordTo, stepBit};
-use bits::bit_at;
+use numbers::bits::bit_at;
 use terms::kind::Axis;
 use terms::kind::Local;
 use terms::kind::Shape;

@@ -1,8 +1,8 @@
 // A word with one bit more, or another.
 ghost use mathlib.Core.Path.{_≡_};
 ghost use Prim.Native.Nat.{_+_, _*_, _^_, _<_};
-ghost use Rattle.meaning.specs.Marks.{bit, wordBits};
 ghost use Rattle.onepass.specs.Bytes.{withBit};
+ghost use Rattle.numbers.specs.Bits.{bit, wordBits};
 
 // A word of the bits below i, with bit i added.
 pub(crate) fn add_bit(w: u64, i: usize, on: bool) -> u64

@@ -20,7 +20,7 @@ use Rattle.reports.proofs.TagLaws.{labels-append, levels-append, levels
 use Rattle.terms.specs.Limits.{reportMost, elementsMost}
 use Rattle.numbers.proofs.First.{first-before}
 use Rattle.reports.specs.Elements.{labelsOf, levelsOf, tagsRead}
-use Rattle.numbers.specs.Lists.{over}
+use Rattle.numbers.specs.Lists.{listed, over}
 use Rattle.numbers.proofs.Lists.{over-none, over-next}
 use Rattle.terms.proofs.AnswerLaws.{found-accepted, refused-not, Within, within-either, refused-within, accepted-within, within-size}
 
@@ -71,7 +71,7 @@ pub record WalkMid (s labels₀ levels₀ labels₁ levels₁ : List ℕ) (i at 
 
 module _ (s labels₀ levels₀ : List ℕ) where
   pub walk-start : WalkMid s labels₀ levels₀ labels₀ levels₀ 0 0 0 0
-  unfolding tagsBefore labels levelsFrom
+  unfolding listed labels levelsFrom
   walk-start = record { mid = report-start s; labels-are = sym (over-none labels₀); levels-are = sym (over-none levels₀); size = omega arith }
 
   module _ {labels₁ levels₁ : List ℕ} {i at d e : ℕ} (m : WalkMid s labels₀ levels₀ labels₁ levels₁ i at d e) where
@@ -165,7 +165,7 @@ taken-lists s a = (ap labels (read-all s a) ∙ sym (labels-taken s a), ap level
 module _ (s : List ℕ) where
   -- Records with no fault open at most 4,096 elements.
   opened-few : (i : ℕ) → ((j : ℕ) → j < i → reportStops s j ≡ false) → opened (tagsBefore s i) ≤ elementsMost
-  unfolding tagsBefore reportStops reportFault labels
+  unfolding listed reportStops reportFault labels
   opened-few zero h = omega arith
   opened-few (suc i) h =
       let f = stops-not s (reportFault s) i (h i (omega arith)) .1 in

@@ -5,7 +5,7 @@ use native.Mathlib.Omega.{arith}
 use native.Mathlib.Numerals.{add-one, sub-one}
 use borrow.Author.Tests.{lt-ltb, le-ltb, eq-eqb, ne-eqb, leb-false}
 use mathlib.Core.Path.{_≡_, refl, sym, ap, _∙_}
-use mathlib.Core.Bool.{Bool, true, false, cond, not, _||_, _&&_}
+use mathlib.Core.Bool.{Bool, true, false, cond, _||_, _&&_}
 use mathlib.Core.List.{List, [], _∷_, _++_}
 use lib.Dec.{leb, ltb, eqb}
 use lib.ListN.{length, length-append}
@@ -21,6 +21,7 @@ use Rattle.reports.proofs.TagLaws.{depth-append, labels-append}
 use Rattle.terms.proofs.Reading.{Mid, mid-start, mid-turn, mid-ended, mid-faulty}
 use Rattle.terms.proofs.FrameLaws.{Stands, frame-few, frame-unknown, frame-wrong, frame-past, frame-whole, whole-stands}
 use Rattle.terms.specs.Limits.{elementsMost, levelsMost, reportMost, outside}
+use Rattle.numbers.specs.Lists.{listed}
 
 -- ---- one record
 
@@ -146,7 +147,7 @@ pub record ReportMid (s : List ℕ) (i at d e : ℕ) : Type 0 where
 
 module _ (s : List ℕ) where
   pub report-start : ReportMid s 0 0 0 0
-  unfolding tagsBefore depthFrom labels
+  unfolding listed depthFrom labels
   report-start =
       record { mid = mid-start s (reportFault s); depth-is = refl; opened-is = refl; shallow = omega arith; few = omega arith }
 
@@ -163,7 +164,7 @@ module _ (s : List ℕ) where
       after = mid-turn s (reportFault s) (m .mid) ne (fault-is ∙ f) (report-next f)
 
       pub tags-after : tagsBefore s (i + 1) ≡ tagsBefore s i ++ (tagAt s at ∷ [])
-      unfolding tagsBefore
+      unfolding listed
       tags-after =
           ap (tagsBefore s) (add-one i) ∙ ap (λ (x : ℕ). tagsBefore s i ++ (tagAt s x ∷ [])) (m .mid .begins)
 

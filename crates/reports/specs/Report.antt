@@ -1,9 +1,9 @@
 -- The report reader: which number a report gets, and where. Document 01, "Numbers given back", rows 0 and 5 to 8, and its order.
 -- Shuts out: a record after the root's closing taken; a fault other than the first deciding; an end with an element open taken.
 -- Laws: proofs/ReportLaws.antt, and the crate grammar. Assumes nothing.
-use Prim.Native.Nat.{ℕ, zero, suc, _+_}
+use Prim.Native.Nat.{ℕ, _+_}
 use mathlib.Core.Bool.{Bool, cond, _&&_}
-use mathlib.Core.List.{List, [], _∷_, _++_}
+use mathlib.Core.List.{List}
 use lib.Dec.{ltb, eqb}
 use lib.ListN.{length}
 use Rattle.numbers.specs.Bytes.{numberAt}
@@ -13,6 +13,7 @@ use Rattle.reports.specs.Tags.{Tag, opens, closes, depth, opened, tagFau
 use Rattle.terms.specs.declared.answer.Answer.{Answer}
 use Rattle.terms.specs.declared.answer.Answer.the-variants.{Accepted, Refused}
 use Rattle.terms.specs.Limits.{reportMost, missized}
+use Rattle.numbers.specs.Lists.{listed}
 
 -- The length of a report record of each kind; 0 for a number that is no kind.
 unfoldable pub reportLength : ℕ → ℕ
@@ -23,9 +24,8 @@ unfoldable pub tagAt : List ℕ → ℕ → Tag
 tagAt s at = cond (eqb (kindAt s at) 1) (opens (numberAt s (at + 4))) closes
 
 -- The tags of the first i records.
-unfoldable pub tagsBefore : List ℕ → ℕ → List Tag
-tagsBefore s zero = []
-tagsBefore s (suc i) = tagsBefore s i ++ (tagAt s (startOf s i) ∷ [])
+abbrev pub tagsBefore : List ℕ → ℕ → List Tag
+tagsBefore s n = listed n (λ i. tagAt s (startOf s i))
 
 -- The number that the report's record at an offset gets where so many elements are open and so many have been opened before it, in
 -- the order 6, 7, 8; 0 where it has no fault. The root is closed where elements have been opened and none is open.

@@ -4,7 +4,7 @@
 use Prim.Native.Nat.{ℕ, suc, pred}
 use mathlib.Core.Bool.{Bool, cond, _||_}
 use mathlib.Core.List.{List, [], _∷_}
-use lib.Dec.{leb, ltb, eqb}
+use lib.Dec.{leb, eqb}
 use lib.ListN.{length}
 use Rattle.terms.specs.Limits.{elementsMost, levelsMost, outside}
 

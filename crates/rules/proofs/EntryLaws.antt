@@ -1,12 +1,12 @@
 -- Laws of the walk that checks a rule and fills the table of its entries at once: what it knows between two turns, whatever the rule is
 -- answered in the end; and bounds on the answer. Assumes nothing.
-use Prim.Native.Nat.{ℕ, zero, suc, _+_, _-_, _≤_, _<_}
+use Prim.Native.Nat.{ℕ, _+_, _-_, _≤_, _<_}
 use native.Mathlib.Omega.{arith}
 use native.Mathlib.Numerals.{add-one}
-use mathlib.Core.Path.{_≡_, refl, sym, ap, _∙_}
+use mathlib.Core.Path.{_≡_, sym, ap, _∙_}
 use mathlib.Core.Bool.{Bool, true, false, cond, _||_}
 use mathlib.Core.List.{List, [], _∷_, _++_, map, map-append}
-use lib.ListN.{length, set, length-append, length-map}
+use lib.ListN.{length, set, length-map}
 use Rattle.terms.specs.Answer.{countOf}
 use Rattle.numbers.specs.First.{first}
 use Rattle.terms.specs.Frame.{startOf}
@@ -22,21 +22,18 @@ use Rattle.rules.proofs.RuleLaws.{RuleMid, rule-accepts, rule-refuses, 
 use Rattle.terms.specs.Limits.{entriesMost, ruleMost}
 use Rattle.numbers.proofs.First.{first-le, first-before}
 use Rattle.rules.specs.Entries.{entriesBefore, entriesOf, entriesRead, EntriesTaken, kindOf, aOf, bOf}
-use Rattle.numbers.specs.Lists.{over}
-use Rattle.numbers.proofs.Lists.{over-none, over-next}
+use Rattle.numbers.specs.Lists.{listed, over}
+use Rattle.numbers.proofs.Lists.{over-none, over-next, listed-length}
 use Rattle.terms.proofs.AnswerLaws.{refused-not, Within, within-either, refused-within, accepted-within, within-size}
 
 -- As many entries as records.
 pub entries-length : (s : List ℕ) (i : ℕ) → length (entriesBefore s i) ≡ i
-unfolding entriesBefore
-entries-length s zero = refl
-entries-length s (suc i) =
-    length-append (entriesBefore s i) (entryAt s (startOf s i) ∷ []) ∙ add-one (length (entriesBefore s i)) ∙ ap suc (entries-length s i)
+entries-length s i = listed-length i _
 
 -- A column of the entries' table, one entry more.
 column-next : (f : Entry → ℕ) (s lent : List ℕ) (i at : ℕ) → startOf s i ≡ at
     → set (over (map f (entriesBefore s i)) lent) i (f (entryAt s at)) ≡ over (map f (entriesBefore s (i + 1))) lent
-unfolding entriesBefore
+unfolding listed
 column-next f s lent i at e =
     over-next (map f (entriesBefore s i)) lent (f (entryAt s at)) i (length-map (entriesBefore s i) f ∙ entries-length s i)
     ∙ ap (λ (xs : List ℕ). over xs lent) (sym more)
@@ -97,7 +94,7 @@ entries-many s h = rw (le-ltb (length s) 1 (omega arith), lt-ltb ruleMost (lengt
 
 -- One entry more.
 pub entries-more : (s : List ℕ) {i at : ℕ} → RuleMid s i at → entriesBefore s (i + 1) ≡ entriesBefore s i ++ (entryAt s at ∷ [])
-unfolding entriesBefore
+unfolding listed
 entries-more s {i} {at} m =
     ap (entriesBefore s) (add-one i) ∙ ap (λ (x : ℕ). entriesBefore s i ++ (entryAt s x ∷ [])) (m .begins)
 
@@ -124,7 +121,7 @@ pub record EntriesMid (s kinds₀ firsts₀ seconds₀ kinds firsts seconds : Li
 
 module _ (s kinds₀ firsts₀ seconds₀ : List ℕ) where
   pub entries-start : EntriesMid s kinds₀ firsts₀ seconds₀ kinds₀ firsts₀ seconds₀ 0 0
-  unfolding entriesBefore
+  unfolding listed
   entries-start =
       record { mid = mid-start _ _; few = omega arith; kinds-so = sym (over-none kinds₀); firsts-so = sym (over-none firsts₀); seconds-so = sym (over-none seconds₀) }
 

@@ -1,9 +1,9 @@
 -- What an accepted rule holds, as the list of entries that the layers above work on. Document 01, "Records".
 -- Laws: proofs/EntryLaws.antt, and the crate grammar. Assumes nothing.
-use Prim.Native.Nat.{ℕ, zero, suc}
+use Prim.Native.Nat.{ℕ}
 use mathlib.Core.Path.{_≡_}
 use mathlib.Core.Bool.{cond}
-use mathlib.Core.List.{List, [], _∷_, _++_, map}
+use mathlib.Core.List.{List, [], map}
 use Rattle.terms.specs.Answer.{countOf}
 use Rattle.numbers.specs.First.{first}
 use Rattle.terms.specs.Frame.{startOf}
@@ -11,12 +11,11 @@ use Rattle.rules.specs.Rule.{entryAt, ruleStops, ruleAnswer}
 use Rattle.terms.specs.declared.answer.Answer.{Answer}
 use Rattle.rules.specs.declared.rule.Entry.{Entry}
 use Rattle.terms.specs.Limits.{ruleMost, entriesMost, missized}
-use Rattle.numbers.specs.Lists.{over}
+use Rattle.numbers.specs.Lists.{listed, over}
 
 -- The entries of the first n records.
-unfoldable pub entriesBefore : List ℕ → ℕ → List Entry
-entriesBefore s zero = []
-entriesBefore s (suc i) = entriesBefore s i ++ (entryAt s (startOf s i) ∷ [])
+abbrev pub entriesBefore : List ℕ → ℕ → List Entry
+entriesBefore s n = listed n (λ i. entryAt s (startOf s i))
 
 -- The entries of an accepted rule; none of a refused one.
 unfoldable pub entriesOf : List ℕ → List Entry

@@ -1,9 +1,8 @@
 // The rule reader.
 ghost use mathlib.Core.Path.{_≡_};
-ghost use mathlib.Core.Bool.{true, cond};
+ghost use mathlib.Core.Bool.{cond};
 ghost use Prim.Native.Nat.{_+_, _*_, _≤_, _<_};
 ghost use lib.ListN.{length};
-ghost use Rattle.numbers.specs.Bytes.{numberAt};
 ghost use Rattle.rules.specs.Rule.{entryOf, misdirected, faultyAt, fineAt, takenAt, ruleAnswer};
 use crate::frame::frame_of;
 use crate::table::read_entries;

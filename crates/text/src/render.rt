@@ -9,7 +9,7 @@ use crate::put::TEXT_BYTES;
 use crate::put::put_field;
 use crate::put::put_phrase;
 use crate::put::put_word;
-use bits::bit_at;
+use numbers::bits::bit_at;
 use terms::limits::ELEMENTS_MOST;
 
 // Puts an element's number, label, level and verdict.

@@ -1,9 +1,9 @@
 -- `parent_word` reads open word d - 1, if there is one. Assumes nothing.
 use borrow.Author.Tests.{eq-eqb, ne-eqb}
-use Rattle.meaning.proofs.Words.{pred-sub}
 use borrow.Author.Needs.{needs}
 use Rattle.onepass.proofs.state.parent_word.Statement.{statement}
 use Rattle.onepass.proofs.state.parent_word.Tie as tie
+use Rattle.numbers.proofs.BitLaws.{pred-sub}
 
 sub-word-at : tie.Need-sub-word-at
 sub-word-at c = search needs

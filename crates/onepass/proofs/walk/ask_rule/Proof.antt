@@ -13,6 +13,7 @@ use Rattle.onepass.proofs.walk.ask_rule.Statement.{statement}
 use Rattle.onepass.proofs.walk.ask_rule.Tie as tie
 use Rattle.rules.specs.Entries.{entriesBefore}
 use Rattle.rules.proofs.EntryLaws.{halts-ended, halts-faulty, entries-none, entries-many}
+use Rattle.numbers.specs.Lists.{listed}
 
 abbrev Inv-loop : tie.InvT-loop
 Inv-loop rule at₀ n₀ ahead₀ at n ahead = AskMid rule n at ahead
@@ -37,7 +38,7 @@ returns-2 : tie.Need-returns-2 Inv-loop μ-loop
 returns-2 c = rw (c .unasked2 .ensures) (ask-none _ (entries-many _ (c .before .if2 .taken)) (rule-long _ (c .before .if2 .taken)))
 
 loop-holds : tie.Need-loop-holds Inv-loop μ-loop
-unfolding looksAhead entriesBefore
+unfolding looksAhead listed
 loop-holds c = record { mid = mid-start _ _; few = omega arith; ahead-so = refl }
 
 take-entry-requires : tie.Need-take-entry-requires Inv-loop μ-loop

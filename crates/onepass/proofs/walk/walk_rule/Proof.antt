@@ -15,6 +15,7 @@ use Rattle.onepass.proofs.walk.walk_rule.Statement.{statement}
 use Rattle.onepass.proofs.walk.walk_rule.Tie as tie
 use Rattle.rules.specs.Entries.{entriesBefore}
 use Rattle.rules.proofs.EntryLaws.{halts-ended, halts-faulty, entries-none, entries-many}
+use Rattle.numbers.specs.Lists.{listed}
 
 abbrev Inv-loop : tie.InvT-loop
 Inv-loop rule label p q at₀ n₀ w₀ ahead₀ at n w ahead = StepMid rule label p q n at ahead w
@@ -39,7 +40,7 @@ returns-2 : tie.Need-returns-2 Inv-loop μ-loop
 returns-2 c = rw (c .unread2 .ensures) (walk-none _ _ _ _ (entries-many _ (c .before .if2 .taken)) (rule-long _ (c .before .if2 .taken)))
 
 loop-holds : tie.Need-loop-holds Inv-loop μ-loop
-unfolding looksAhead stepWord entriesBefore
+unfolding looksAhead stepWord listed
 loop-holds c = record { mid = mid-start _ _; few = omega arith; ahead-so = refl; word-so = refl }
 
 take-entry-requires : tie.Need-take-entry-requires Inv-loop μ-loop

@@ -2,8 +2,8 @@
 use native.Mathlib.Nat.{div-eq-of-lt, lt-of-lt-of-le}
 use lib.Pow.{pow-mono}
 use borrow.Author.Needs.{needs}
-use Rattle.bits.proofs.bit_at.Statement.{statement}
-use Rattle.bits.proofs.bit_at.Tie as tie
+use Rattle.numbers.proofs.bits.bit_at.Statement.{statement}
+use Rattle.numbers.proofs.bits.bit_at.Tie as tie
 
 shr-result : tie.Need-shr-result
 shr-result c = search needs

@@ -1,6 +1,6 @@
-// A bit of a mark word, for one pass and for the text.
+// A bit of a word.
 ghost use mathlib.Core.Path.{_≡_};
-ghost use Rattle.meaning.specs.Marks.{bitAt};
+ghost use Rattle.numbers.specs.Bits.{bitAt};
 
 // How many bits a mark word has.
 pub const WORD_BITS: usize = 64;
