@@ -10,7 +10,7 @@ use mathlib.Core.Logic.{_↔_}
 use lib.ListN.{length, getD, take, drop}
 use lib.Seq.{take-append-seam}
 use Rattle.reports.specs.Report.{reportAnswer, tagsOf as tagsIn}
-use Rattle.reports.specs.Tags.{opens, opened}
+use Rattle.reports.specs.Tags.{opens, openedCount}
 use Rattle.terms.specs.declared.answer.Answer.the-variants.{Accepted}
 use Rattle.grammar.specs.Bytes.{Bytes}
 use Rattle.meaning.specs.Marks.{wordOf}
@@ -85,11 +85,11 @@ module _ (text lent after : List ℕ) (r : PathReply) (t : Test) (typed : Typed 
       → (before : List Call) (label : ℕ) (a : StepReply) (later : List Call)
       → Calls rule start (before ++ (record { tag = opens label; answer = a } ∷ later)) end
       → tagsOf (before ++ (record { tag = opens label; answer = a } ∷ later)) ≡ tagsIn report
-      → (a .number ≡ 0) × ((a .verdict ≡ 1) ↔ Selects (levelsOf report) (labelsOf report) t (opened (tagsOf before)))
+      → (a .number ≡ 0) × ((a .verdict ≡ 1) ↔ Selects (levelsOf report) (labelsOf report) t (openedCount (tagsOf before)))
   opened-selects back report n bytes report-taken given start end r₀ started begun before label a later calls fed =
       let accepted = table-taken t (spelt .labels) few in
       let looks : LooksBack (entriesOf (bytesFor t)) = rw (accepted .1) (table-back t .1 back) in
-      let s = opened (tagsOf before) in
+      let s = openedCount (tagsOf before) in
       let cs = before ++ (record { tag = opens label; answer = a } ∷ later) in
       let fed-rule : Calls (bytesFor t) start cs end = rw rule-is at calls in
       let q = report-fed (bytesFor t) _ (accepted .0) looks given start r₀ started begun report n bytes report-taken cs end fed-rule fed before label a later refl in

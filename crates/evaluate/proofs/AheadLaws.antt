@@ -14,7 +14,7 @@ use borrow.Author.Tests.{lt-ltb, le-ltb, eq-eqb, ne-eqb}
 use lib.Bits.{bitOr}
 use lib.Dec.{ltb, eqb}
 use lib.ListN.{length, getD, set, List·getD-eq-default}
-use Rattle.numbers.proofs.Tells.{and-one, holds, told-same, true-iff, eqb-told, and-told}
+use Rattle.numbers.proofs.Tells.{and-one, holds, test-same, true-iff, eqb-tests, and-tests}
 use Rattle.meaning.specs.Tree.{forward}
 use Rattle.meaning.specs.Marks.{at, anyBelow, someOf}
 use Rattle.meaning.proofs.Ways.{at-iff}
@@ -44,7 +44,7 @@ module _ (f : List ℕ) (t : ℕ) (l : t < length f) where
   nearest-child : ((s c : ℕ) → leads f c ≡ some s → leads f (suc s) ≡ some s)
       → eqb (getD f (suc t) (length f)) t ≡ someOf forward (length f) (leads f) (λ c. true) t
   nearest-child near =
-      told-same (eqb-told (getD f (suc t) (length f)) t) (some-told (ahead (leads-finds f)) t (λ c q. holds (tt {0}))) (
+      test-same (eqb-tests (getD f (suc t) (length f)) t) (some-told (ahead (leads-finds f)) t (λ c q. holds (tt {0}))) (
         λ e. elim (decLt (suc t) (length f)) [
           | yes m ↦ (suc t, number-leads f (suc t) t (length f) m (omega arith) e, tt)
           | no h ↦ absurd (omega (arith, List·getD-eq-default f (length f) {n = suc t} (omega arith)))
@@ -149,7 +149,7 @@ module _ (look : Look) (f before : List ℕ) (a b : ℕ) where
   -- Who gives to s comes after it.
   gives-after : (s c : ℕ) → gives-to s c ≡ true → suc s ≤ c
   gives-after s c e =
-      let h = true-iff (and-told (at-told {P = λ u. u ≡ s} (leads f c) (λ u q. eqb-told u s)) (bool-told (gives c))) .0 e in
+      let h = true-iff (and-tests (at-told {P = λ u. u ≡ s} (leads f c) (λ u q. eqb-tests u s)) (bool-told (gives c))) .0 e in
       let r = at-iff (leads f c) (λ u. u ≡ s) .0 (h .0) in omega (arith, leads-down f c (r .0) (r .1), r .2)
 
   module _ {i : ℕ} (room : Room (length f) i before) (la : a < i) (lb : b < i) (nearest : Nearest look f) (t : ℕ) (l : t < length f) where

@@ -14,7 +14,7 @@ use Rattle.terms.proofs.Rows.{numbers-are}
 use Rattle.grammar.specs.Legal.{LegalLevels}
 use Rattle.grammar.specs.Rules.{noEntry, RuleEntries}
 use Rattle.grammar.proofs.Entries.{formed-kind, formed-entries, formed-a, formed-b}
-use Rattle.numbers.proofs.Tells.{Told, told-same}
+use Rattle.numbers.proofs.Tells.{IsTest, test-same}
 use Rattle.terms.specs.declared.kind.Axis.{Axis}
 use Rattle.terms.specs.declared.kind.Axis.the-variants.{Child as child, Parent as parent, Next as next, Previous as previous}
 use Rattle.meaning.specs.Tree.{direction}
@@ -139,9 +139,9 @@ means-same : (levels labels : List ℕ) (k : Shape) (l : ℕ) (a a′ b b′ : �
     → ((t : ℕ) → t < length levels → a t ≡ a′ t) → ((t : ℕ) → t < length levels → b t ≡ b′ t) → (s : ℕ) → s < length levels
     → means levels labels k l a b s ≡ means levels labels k l a′ b′ s
 means-same levels labels k l a a′ b b′ ea eb s h =
-    told-same (means-told levels labels l _ _ a b (λ t m. bool-told (a t)) (λ t m. bool-told (b t)) s h k)
-    (means-told levels labels l (λ t. a t ≡ true) (λ t. b t ≡ true) a′ b′ (λ t m. subst (Told (a t ≡ true)) (ea t m) (bool-told (a t)))
-    (λ t m. subst (Told (b t ≡ true)) (eb t m) (bool-told (b t))) s h k)
+    test-same (means-told levels labels l _ _ a b (λ t m. bool-told (a t)) (λ t m. bool-told (b t)) s h k)
+    (means-told levels labels l (λ t. a t ≡ true) (λ t. b t ≡ true) a′ b′ (λ t m. subst (IsTest (a t ≡ true)) (ea t m) (bool-told (a t)))
+    (λ t m. subst (IsTest (b t ≡ true)) (eb t m) (bool-told (b t))) s h k)
     (λ x. x, λ x. x)
 
 module _ (levels labels : List ℕ) (entries : List Entry) where

@@ -14,7 +14,7 @@ use lib.ListN.{length, drop, length-append}
 use lib.Seq.{drop-length}
 use Rattle.numbers.specs.Bytes.{numberAt}
 use Rattle.terms.specs.Frame.{kindAt, nextOf, startOf}
-use Rattle.reports.specs.Tags.{Tag, opens, closes, opened}
+use Rattle.reports.specs.Tags.{Tag, opens, closes, openedCount}
 use Rattle.reports.specs.Report.{reportLength, tagAt, tagsBefore, reportFault, reportAnswer, tagsOf}
 use Rattle.terms.specs.declared.answer.Answer.the-variants.{Accepted}
 use Rattle.grammar.specs.Bytes.{twoBytes, Bytes}
@@ -22,7 +22,7 @@ use Rattle.grammar.specs.Legal.{Fit, Legal}
 use Rattle.grammar.specs.Reports.{Tree, tagBytes, bytesOf, tagsT, sizeT, Within}
 use Rattle.grammar.specs.When.{Faulty, Ended}
 use Rattle.grammar.proofs.Bytes.{number-back, number-shift, bytes-split}
-use Rattle.numbers.proofs.Tells.{Told, holds, fails, eqb-told}
+use Rattle.numbers.proofs.Tells.{IsTest, holds, fails, eqb-tests}
 use Rattle.grammar.proofs.Frame.{Sound, sound-unfaulty, unfaulty-sound, start-strict}
 use Rattle.grammar.proofs.Fits.{fit-snoc}
 use Rattle.grammar.proofs.Trees.{bytes-append, bytes-size, tree-some, tags-size, tags-start-only, tags-only, legal-tree, tree-legal}
@@ -154,8 +154,8 @@ module _ (s : List ℕ) (bytes : Bytes s) where
   -- Where a record is not faulty, its tag's bytes stand there, and then the next record.
   record-bytes : (at : ℕ) → Sound reportLength s at → drop at s ≡ tagBytes (tagAt s at) ++ drop (nextOf s at) s
   unfolding tagAt nextOf reportLength
-  record-bytes at r = go (eqb-told (kindAt s at) 1) (eqb-told (kindAt s at) 2) (r .known) (r .right) where
-    go : {b c : Bool} → Told (kindAt s at ≡ 1) b → Told (kindAt s at ≡ 2) c
+  record-bytes at r = go (eqb-tests (kindAt s at) 1) (eqb-tests (kindAt s at) 2) (r .known) (r .right) where
+    go : {b c : Bool} → IsTest (kindAt s at ≡ 1) b → IsTest (kindAt s at ≡ 2) c
         → (_≡_ {A = ℕ} (cond b 4 (cond c 2 0)) 0 → ⊥) → numberAt s at ≡ cond b 4 (cond c 2 0)
         → drop at s ≡ tagBytes (cond b (opens (numberAt s (at + 4))) closes) ++ drop (at + 2 + numberAt s at) s
     go (holds k) c n q = opens-bytes at (omega (arith, r .fits, q)) k q
@@ -239,7 +239,7 @@ accepted-tree s bytes n e =
     let b = ended-bytes s bytes (h .1 .0) (h .1 .1) in
     let l : Legal 0 0 ts = record { fit = clean-fit s (h .1 .0) (h .1 .1 .clean); ended = h .1 .2 } in
     let t = legal-tree ts l (bytes-some s ts b (h .0 .some)) in
-    (t .0, b ∙ ap bytesOf (t .1), t .2, sym (tags-size (t .0)) ∙ ap opened (sym (t .1)) ∙ h .1 .3)
+    (t .0, b ∙ ap bytesOf (t .1), t .2, sym (tags-size (t .0)) ∙ ap openedCount (sym (t .1)) ∙ h .1 .3)
 
 -- A byte string is accepted with n elements exactly where it is the bytes of a tree within the limits that has n elements.
 pub report-iff : (s : List ℕ) → Bytes s → (n : ℕ)

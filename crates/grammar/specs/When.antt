@@ -10,7 +10,7 @@ use Rattle.terms.specs.Frame.{kindAt, startOf}
 use Rattle.terms.specs.Kinds.{rowOf}
 use Rattle.reports.specs.Report.{reportLength, tagAt, tagsBefore, reportFault}
 use Rattle.rules.specs.Rule.{entryAt}
-use Rattle.reports.specs.Tags.{Tag, opens, closes, depth, opened}
+use Rattle.reports.specs.Tags.{Tag, opens, closes, depth, openedCount}
 use Rattle.terms.specs.declared.kind.Numbers.the-variants.{Label, Entries}
 use Rattle.terms.specs.declared.kind.Row.{Row}
 use Rattle.rules.specs.declared.rule.Entry.{Entry}
@@ -88,7 +88,7 @@ pub record Row8 (s : List ℕ) (at depth elements : ℕ) : Type 0 where
 -- A row applies at the first record with a fault, which begins at p: `row` takes where the record begins, how many elements are open
 -- before it, and how many have been opened.
 abbrev pub AtFirst : List ℕ → ℕ → (ℕ → ℕ → ℕ → Type 0) → Type 0
-AtFirst s p row = (i : ℕ) × Reached (reportFault s) s i p × row p (depth (tagsBefore s i)) (opened (tagsBefore s i))
+AtFirst s p row = (i : ℕ) × Reached (reportFault s) s i p × row p (depth (tagsBefore s i)) (openedCount (tagsBefore s i))
 
 -- Row 7 at the end: no record has a fault, and the report ends with an element open; the place is its length.
 abbrev pub EndsOpen : List ℕ → ℕ → Type 0
@@ -96,4 +96,4 @@ EndsOpen s p = (i : ℕ) × Ended (reportFault s) s i × (0 < depth (tagsBefore 
 
 -- Row 0: no record has a fault, and the report ends with no element open and n opened.
 abbrev pub EndsWell : List ℕ → ℕ → Type 0
-EndsWell s n = (i : ℕ) × Ended (reportFault s) s i × (depth (tagsBefore s i) ≡ 0) × (opened (tagsBefore s i) ≡ n)
+EndsWell s n = (i : ℕ) × Ended (reportFault s) s i × (depth (tagsBefore s i) ≡ 0) × (openedCount (tagsBefore s i) ≡ n)

@@ -11,7 +11,7 @@ use mathlib.Core.Option.{Option, none, some}
 use lib.Dec.{eqb}
 use lib.ListN.{length, getD, List·getD-eq-default}
 use Rattle.rules.specs.declared.rule.Entry.{Entry}
-use Rattle.reports.specs.Tags.{Tag, opens, depth, levelsFrom, levels, labels, opened}
+use Rattle.reports.specs.Tags.{Tag, opens, depth, levelsFrom, levels, labels, openedCount}
 use Rattle.reports.proofs.TagLaws.{levels-append, labels-append, levels-count}
 use Rattle.numbers.proofs.First.{clash}
 use Rattle.grammar.specs.Rules.{noEntry}
@@ -123,8 +123,8 @@ module _ (entries : List Entry) (back : LooksBack entries) where
 
   -- The element that opens after some tags has the same marks whatever tags come after its opening.
   pub mark-begun : (ts : List Tag) (l : ℕ) (more more′ : List Tag) (i : ℕ)
-      → mark (levels (ts ++ (opens l ∷ more))) (labels (ts ++ (opens l ∷ more))) entries i (opened ts)
-      ≡ mark (levels (ts ++ (opens l ∷ more′))) (labels (ts ++ (opens l ∷ more′))) entries i (opened ts)
+      → mark (levels (ts ++ (opens l ∷ more))) (labels (ts ++ (opens l ∷ more))) entries i (openedCount ts)
+      ≡ mark (levels (ts ++ (opens l ∷ more′))) (labels (ts ++ (opens l ∷ more′))) entries i (openedCount ts)
   unfolding levelsFrom labels
   mark-begun ts l more more′ i =
       rw (levels-append 0 ts (opens l ∷ more), levels-append 0 ts (opens l ∷ more′))

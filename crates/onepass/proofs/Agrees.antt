@@ -16,7 +16,7 @@ use Rattle.terms.specs.declared.answer.Answer.the-variants.{Accepted, Refused}
 use Rattle.rules.specs.declared.rule.Entry.{Entry}
 use Rattle.reports.specs.Report.{reportAnswer, tagsOf as tagsIn}
 use Rattle.rules.specs.Rule.{ruleAnswer}
-use Rattle.reports.specs.Tags.{Tag, opens, closes, opened}
+use Rattle.reports.specs.Tags.{Tag, opens, closes, openedCount}
 use Rattle.grammar.specs.Bytes.{Bytes}
 use Rattle.grammar.proofs.Elements.{accepted-legal, levels-accepted, labels-accepted}
 use Rattle.grammar.specs.Reports.{bytesOf}
@@ -245,7 +245,7 @@ module _ (rule : List ℕ) (m : ℕ) (accepted : ruleAnswer rule ≡ Accepted m)
       -- THE THEOREM: its verdict is the meaning's verdict of the element whose number is the count of openings accepted before, in
       -- every report that the report reader accepts and whose bytes begin with the accepted tags' bytes.
       pub verdict-agrees : (report : List ℕ) (n : ℕ) → Begins (tags ++ (opens label ∷ [])) report n
-          → r .verdict ≡ bit (verdict (entriesOf rule) (levelsOf report) (labelsOf report) (opened tags))
+          → r .verdict ≡ bit (verdict (entriesOf rule) (levelsOf report) (labelsOf report) (openedCount tags))
       verdict-agrees report n b =
           let q = report-begins (tags ++ (opens label ∷ [])) report n b in
           let all : tagsIn report ≡ tags ++ (opens label ∷ q .0) = q .1 ∙ append-assoc tags (opens label ∷ []) (q .0) in
@@ -294,7 +294,7 @@ module _ (rule : List ℕ) (m : ℕ) (accepted : ruleAnswer rule ≡ Accepted m)
           → cs ≡ before ++ (record { tag = opens label; answer = r } ∷ later)
           → (r .number ≡ 0)
           × (r .verdict
-          ≡ bit (bitAt (wordOf (entriesOf rule) (levelsOf report) (labelsOf report) (opened (tagsOf before))) (pred (length (entriesOf rule)))))
+          ≡ bit (bitAt (wordOf (entriesOf rule) (levelsOf report) (labelsOf report) (openedCount (tagsOf before))) (pred (length (entriesOf rule)))))
       unfolding verdict tagsOf taken
       report-fed before label r later e =
           let c : Call = record { tag = opens label; answer = r } in

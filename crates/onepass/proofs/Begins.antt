@@ -9,7 +9,7 @@ use mathlib.Core.List.{List, [], _∷_, _++_, append-assoc, append-nil}
 use lib.ListN.{length, replicate, length-append}
 use Rattle.terms.specs.Frame.{startOf}
 use Rattle.reports.specs.Report.{tagAt, tagsBefore, tagsOf}
-use Rattle.reports.specs.Tags.{Tag, opens, closes, depthFrom, depth, labels, opened}
+use Rattle.reports.specs.Tags.{Tag, opens, closes, depthFrom, depth, labels, openedCount}
 use Rattle.reports.proofs.TagLaws.{depth-append}
 use Rattle.grammar.specs.Bytes.{Bytes, twoBytes}
 use Rattle.grammar.specs.Legal.{Fit, Legal}
@@ -99,7 +99,7 @@ pub fit-goes-on : (us : List Tag) → Fit 0 0 us → (us ≡ [] → ⊥) → (re
 fit-goes-on us f some =
     let ends = replicate (depth us) closes in
     let all = us ++ ends in
-    let c = closings-legal (depth us) (0 + opened us) in
+    let c = closings-legal (depth us) (0 + openedCount us) in
     let fit : Fit 0 0 all = fit-append us ends 0 0 .1 (f, c .fit) in
     let t = legal-tree all (record { fit = fit; ended = depth-append 0 us ends ∙ c .ended }) (none us ends some) in (
       bytesOf all,

@@ -15,7 +15,7 @@ use lib.ListN.{length, getD, set, replicate, length-set, length-replicate}
 use lib.Seq.{ext-getD, getD-set-same, getD-set-other}
 use Rattle.rules.specs.declared.rule.Entry.{Entry}
 use Rattle.grammar.specs.Bytes.{Bytes}
-use Rattle.numbers.proofs.Tells.{Told, false-iff, told-stable, eqb-told, ltb-told, not-told, or-told, and-told}
+use Rattle.numbers.proofs.Tells.{IsTest, false-iff, test-stable, eqb-tests, ltb-tests, not-tests, or-tests, and-tests}
 use Rattle.meaning.specs.OnePass.{State, fresh, parentWord, siblingWord}
 use Rattle.onepass.specs.Bytes.{wordAt, putAt, withBit}
 use Rattle.onepass.specs.State.{stateSize, depthIn, elementsIn, rootIn, presenceIn, openPlace, lastPlace, listed, stateOf, bad, Good}
@@ -38,13 +38,13 @@ Bad s = (length s ≡ stateSize → ⊥)
     ⊎ ((((((levelsMost < depthIn s) ⊎ (elementsIn s < depthIn s)) ⊎ (elementsMost < elementsIn s)) ⊎ (1 < rootIn s))
     ⊎ ((rootIn s ≡ 1) × (depthIn s ≡ 0 → ⊥))) ⊎ (((getD s 6 0 ≡ 0) × (getD s 7 0 ≡ 0)) → ⊥))
 
-bad-told : (s : List ℕ) → Told (Bad s) (bad s)
+bad-told : (s : List ℕ) → IsTest (Bad s) (bad s)
 unfolding bad
 bad-told s =
-    or-told (not-told (eqb-told (length s) stateSize))
-    (or-told (or-told (or-told (or-told (or-told (ltb-told levelsMost (depthIn s)) (ltb-told (elementsIn s) (depthIn s))) (ltb-told elementsMost (elementsIn s)))
-    (ltb-told 1 (rootIn s))) (and-told (eqb-told (rootIn s) 1) (not-told (eqb-told (depthIn s) 0))))
-    (not-told (and-told (eqb-told (getD s 6 0) 0) (eqb-told (getD s 7 0) 0))))
+    or-tests (not-tests (eqb-tests (length s) stateSize))
+    (or-tests (or-tests (or-tests (or-tests (or-tests (ltb-tests levelsMost (depthIn s)) (ltb-tests (elementsIn s) (depthIn s))) (ltb-tests elementsMost (elementsIn s)))
+    (ltb-tests 1 (rootIn s))) (and-tests (eqb-tests (rootIn s) 1) (not-tests (eqb-tests (depthIn s) 0))))
+    (not-tests (and-tests (eqb-tests (getD s 6 0) 0) (eqb-tests (getD s 7 0) 0))))
 
 -- The test lets a state through exactly where no clause of "Bad" applies.
 pub good-iff : (s : List ℕ) → (bad s ≡ false) ↔ Good s
@@ -56,13 +56,13 @@ good-iff s = (λ e. good (false-iff (bad-told s) .0 e), λ g. false-iff (bad-tol
       let c : elementsMost < elementsIn s → ⊥ = λ q. n (inr (inl (inl (inl (inr q))))) in
       let d : 1 < rootIn s → ⊥ = λ q. n (inr (inl (inl (inr q)))) in
       record {
-        long = told-stable (eqb-told (length s) stateSize) (λ q. n (inl q));
+        long = test-stable (eqb-tests (length s) stateSize) (λ q. n (inl q));
         shallow = omega arith;
         within = omega arith;
         few = omega arith;
         flag = omega arith;
-        shut = λ r. told-stable (eqb-told (depthIn s) 0) (λ q. n (inr (inl (inr (r, q)))));
-        spare = told-stable (and-told (eqb-told (getD s 6 0) 0) (eqb-told (getD s 7 0) 0)) (λ q. n (inr (inr q)));
+        shut = λ r. test-stable (eqb-tests (depthIn s) 0) (λ q. n (inr (inl (inr (r, q)))));
+        spare = test-stable (and-tests (eqb-tests (getD s 6 0) 0) (eqb-tests (getD s 7 0) 0)) (λ q. n (inr (inr q)));
       }
 
   fair : Good s → Bad s → ⊥

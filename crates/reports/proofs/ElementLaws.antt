@@ -8,8 +8,8 @@ use mathlib.Core.List.{List, [], _∷_, _++_, append-nil}
 use lib.ListN.{length, set}
 use Rattle.terms.specs.Answer.{Accepts, countOf}
 use Rattle.terms.specs.Frame.{startOf, kindAt}
-use Rattle.reports.specs.Report.{reportAnswer, tagsOf, tagAt, tagsBefore, recordFault, reportFault, reportStops, endOf, reportEnd, lastRecord}
-use Rattle.reports.specs.Tags.{labels, levels, levelsFrom, Tag, opens, closes, depth, opened, tagFault}
+use Rattle.reports.specs.Report.{reportAnswer, tagsOf, tagAt, tagsBefore, recordFault, reportFault, reportStops, endOf, reportAnswerAt, lastRecord}
+use Rattle.reports.specs.Tags.{labels, levels, levelsFrom, Tag, opens, closes, depth, openedCount, tagFault}
 use Rattle.terms.specs.declared.answer.Answer.the-variants.{Accepted, Refused}
 use borrow.Author.Tests.{lt-ltb, le-ltb, eqb-true, eqb-false}
 use lib.Dec.{ltb, eqb}
@@ -153,7 +153,7 @@ read-all : (s : List ℕ) → Accepts (reportAnswer s) → tagsRead s ≡ tagsOf
 unfolding tagsRead reportAnswer
 read-all s a = go (ltb (length s) 1 || ltb reportMost (length s)) a
   where
-    go : (big : Bool) → Accepts (cond big (Refused 5 0) (reportEnd s (lastRecord s))) → cond big [] (tagsOf s) ≡ tagsOf s
+    go : (big : Bool) → Accepts (cond big (Refused 5 0) (reportAnswerAt s (lastRecord s))) → cond big [] (tagsOf s) ≡ tagsOf s
     go true z = absurd z
     go false z = refl
 
@@ -164,18 +164,18 @@ taken-lists s a = (ap labels (read-all s a) ∙ sym (labels-taken s a), ap level
 
 module _ (s : List ℕ) where
   -- Records with no fault open at most 4,096 elements.
-  opened-few : (i : ℕ) → ((j : ℕ) → j < i → reportStops s j ≡ false) → opened (tagsBefore s i) ≤ elementsMost
+  opened-few : (i : ℕ) → ((j : ℕ) → j < i → reportStops s j ≡ false) → openedCount (tagsBefore s i) ≤ elementsMost
   unfolding listed reportStops reportFault labels
   opened-few zero h = omega arith
   opened-few (suc i) h =
       let f = stops-not s (reportFault s) i (h i (omega arith)) .1 in
       let before = opened-few i (λ j l. h j (omega arith)) in
-      let t = record-sound s (startOf s i) (depth (tagsBefore s i)) (opened (tagsBefore s i)) f .1 in
+      let t = record-sound s (startOf s i) (depth (tagsBefore s i)) (openedCount (tagsBefore s i)) f .1 in
       omega (arith, opened-append (tagsBefore s i) (tagAt s (startOf s i) ∷ []), more (tagAt s (startOf s i)) before t)
     where
-      more : (t : Tag) → opened (tagsBefore s i) ≤ elementsMost
-          → tagFault (depth (tagsBefore s i)) (opened (tagsBefore s i)) (eqb (depth (tagsBefore s i)) 0 && ltb 0 (opened (tagsBefore s i))) t ≡ 0
-          → opened (tagsBefore s i) + opened (t ∷ []) ≤ elementsMost
+      more : (t : Tag) → openedCount (tagsBefore s i) ≤ elementsMost
+          → tagFault (depth (tagsBefore s i)) (openedCount (tagsBefore s i)) (eqb (depth (tagsBefore s i)) 0 && ltb 0 (openedCount (tagsBefore s i))) t ≡ 0
+          → openedCount (tagsBefore s i) + openedCount (t ∷ []) ≤ elementsMost
       more (opens l) b z = omega (arith, open-sound _ _ l _ z .1)
       more closes b z = omega arith
 
@@ -184,12 +184,12 @@ module _ (s : List ℕ) where
   unfolding reportStops reportFault
   report-stop =
       mid-reached s (reportFault s)
-      (λ i f. let r = record-sound s (startOf s i) (depth (tagsBefore s i)) (opened (tagsBefore s i)) f .0 in omega (arith, r .ends, r .long))
+      (λ i f. let r = record-sound s (startOf s i) (depth (tagsBefore s i)) (openedCount (tagsBefore s i)) f .0 in omega (arith, r .ends, r .long))
       (lastRecord s) (first-before (reportStops s) (length s))
       .within
 
-  report-end-within : Within (length s) elementsMost (reportEnd s (lastRecord s))
-  unfolding reportEnd endOf
+  report-end-within : Within (length s) elementsMost (reportAnswerAt s (lastRecord s))
+  unfolding reportAnswerAt endOf
   report-end-within =
       within-either (length s) elementsMost _ _ (eqb (startOf s (lastRecord s)) (length s))
       (within-either (length s) elementsMost _ _ (eqb (depth (tagsBefore s (lastRecord s))) 0)

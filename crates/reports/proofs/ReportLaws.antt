@@ -12,8 +12,8 @@ use lib.ListN.{length, length-append}
 use Rattle.numbers.specs.Bytes.{numberAt}
 use Rattle.numbers.specs.First.{first}
 use Rattle.terms.specs.Frame.{frameOf, kindAt, broken}
-use Rattle.reports.specs.Tags.{Tag, opens, closes, depthFrom, depth, labels, opened, tagFault}
-use Rattle.reports.specs.Report.{reportLength, tagAt, tagsBefore, recordFault, reportFault, reportStops, endOf, reportEnd, reportAnswer}
+use Rattle.reports.specs.Tags.{Tag, opens, closes, depthFrom, depth, labels, openedCount, tagFault}
+use Rattle.reports.specs.Report.{reportLength, tagAt, tagsBefore, recordFault, reportFault, reportStops, endOf, reportAnswerAt, reportAnswer}
 use Rattle.terms.specs.declared.answer.Answer.the-variants.{Refused}
 use Rattle.terms.specs.declared.frame.Frame.{Frame}
 use Rattle.terms.specs.declared.frame.Frame.the-variants.{Whole, Cut, Garbled}
@@ -141,7 +141,7 @@ close-sound (suc d) e c z = omega arith
 pub record ReportMid (s : List ℕ) (i at d e : ℕ) : Type 0 where
   pub mid : Mid s (reportFault s) i at
   pub depth-is : depth (tagsBefore s i) ≡ d
-  pub opened-is : opened (tagsBefore s i) ≡ e
+  pub opened-is : openedCount (tagsBefore s i) ≡ e
   pub shallow : d ≤ levelsMost
   pub few : e ≤ elementsMost
 
@@ -173,9 +173,9 @@ module _ (s : List ℕ) where
           ap depth tags-after ∙ depth-append 0 (tagsBefore s i) (tagAt s at ∷ [])
           ∙ rw (m .depth-is, q)
 
-      opened-after : (t : Tag) → tagAt s at ≡ t → opened (tagsBefore s (i + 1)) ≡ e + opened (t ∷ [])
+      opened-after : (t : Tag) → tagAt s at ≡ t → openedCount (tagsBefore s (i + 1)) ≡ e + openedCount (t ∷ [])
       opened-after t q =
-          ap opened tags-after ∙ ap length (labels-append (tagsBefore s i) (tagAt s at ∷ []))
+          ap openedCount tags-after ∙ ap length (labels-append (tagsBefore s i) (tagAt s at ∷ []))
           ∙ length-append (labels (tagsBefore s i)) (labels (tagAt s at ∷ [])) ∙ rw (m .opened-is, q)
 
       tag-fine : (t : Tag) → tagAt s at ≡ t → tagFault d e (eqb d 0 && ltb 0 e) t ≡ 0
@@ -217,19 +217,19 @@ module _ (s : List ℕ) where
           }
 
     module _ (some : 1 ≤ length s) (few : length s ≤ reportMost) where
-      answer-is : first (reportStops s) (length s) ≡ i → reportAnswer s ≡ reportEnd s i
+      answer-is : first (reportStops s) (length s) ≡ i → reportAnswer s ≡ reportAnswerAt s i
       unfolding reportAnswer
       answer-is q = rw (le-ltb (length s) 1 some, le-ltb reportMost (length s) few, q)
 
       pub report-ends : at ≡ length s → endOf (length s) d e ≡ reportAnswer s
-      unfolding reportStops reportEnd
+      unfolding reportStops reportAnswerAt
       report-ends q =
           sym
           (answer-is (mid-ended s (reportFault s) (m .mid) q (length s) (omega (arith, m .mid .slow, m .mid .within)))
           ∙ rw (m .mid .begins, eq-eqb at (length s) q, m .depth-is, m .opened-is))
 
       pub report-refuses : (at ≡ length s → ⊥) → (recordFault s at d e ≡ 0 → ⊥) → Refused (recordFault s at d e) at ≡ reportAnswer s
-      unfolding reportStops reportEnd
+      unfolding reportStops reportAnswerAt
       report-refuses ne f =
           sym
           (answer-is (mid-faulty s (reportFault s) (m .mid) ne (λ z. f (sym fault-is ∙ z)) (length s) (omega (arith, m .mid .slow, m .mid .within)))

@@ -4,7 +4,7 @@ use Prim.Native.Nat.{ℕ, suc, pred, _+_}
 use mathlib.Core.Path.{_≡_, refl, ap}
 use mathlib.Core.List.{List, [], _∷_, _++_}
 use lib.ListN.{length, length-append}
-use Rattle.reports.specs.Tags.{Tag, opens, closes, depthFrom, labels, levelsFrom, opened}
+use Rattle.reports.specs.Tags.{Tag, opens, closes, depthFrom, labels, levelsFrom, openedCount}
 
 -- After two sequences one after the other, as many elements are open as after the second, begun where the first ends.
 pub depth-append : (d : ℕ) (ts us : List Tag) → depthFrom d (ts ++ us) ≡ depthFrom (depthFrom d ts) us
@@ -21,7 +21,7 @@ labels-append (opens l ∷ ts) us = ap (λ (ls : List ℕ). l ∷ ls) (labels-ap
 labels-append (closes ∷ ts) us = labels-append ts us
 
 -- Two sequences open as many elements as both of them.
-pub opened-append : (ts us : List Tag) → opened (ts ++ us) ≡ opened ts + opened us
+pub opened-append : (ts us : List Tag) → openedCount (ts ++ us) ≡ openedCount ts + openedCount us
 opened-append ts us = rw (labels-append, length-append)
 
 -- The levels of two sequences are those of the first, then those of the second, begun where the first ends.

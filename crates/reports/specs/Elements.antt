@@ -5,7 +5,7 @@ use mathlib.Core.Path.{_≡_}
 use mathlib.Core.Bool.{cond}
 use lib.ListN.{length}
 use mathlib.Core.List.{List, []}
-use Rattle.terms.specs.Answer.{found}
+use Rattle.terms.specs.Answer.{whereAccepted}
 use Rattle.reports.specs.Report.{reportAnswer, tagsOf}
 use Rattle.reports.specs.Tags.{Tag, labels, levels}
 use Rattle.terms.specs.declared.answer.Answer.{Answer}
@@ -15,10 +15,10 @@ use Rattle.numbers.specs.Lists.{over}
 
 -- The labels of an accepted report's elements in order of opening, and their levels; none of a refused one.
 unfoldable pub labelsOf : List ℕ → List ℕ
-labelsOf s = found (reportAnswer s) (labels (tagsOf s))
+labelsOf s = whereAccepted (reportAnswer s) (labels (tagsOf s))
 
 unfoldable pub levelsOf : List ℕ → List ℕ
-levelsOf s = found (reportAnswer s) (levels (tagsOf s))
+levelsOf s = whereAccepted (reportAnswer s) (levels (tagsOf s))
 
 -- The tags up to where reading stops; a report of no byte or of too many is not read.
 unfoldable pub tagsRead : List ℕ → List Tag

@@ -9,7 +9,7 @@ use lib.ListN.{length}
 use Rattle.numbers.specs.Bytes.{numberAt}
 use Rattle.numbers.specs.First.{first}
 use Rattle.terms.specs.Frame.{kindAt, brokenAt, startOf, stopsAt}
-use Rattle.reports.specs.Tags.{Tag, opens, closes, depth, opened, tagFault}
+use Rattle.reports.specs.Tags.{Tag, opens, closes, depth, openedCount, tagFault}
 use Rattle.terms.specs.declared.answer.Answer.{Answer}
 use Rattle.terms.specs.declared.answer.Answer.the-variants.{Accepted, Refused}
 use Rattle.terms.specs.Limits.{reportMost, missized}
@@ -30,13 +30,13 @@ tagsBefore s n = listed n (λ i. tagAt s (startOf s i))
 -- The number that the report's record at an offset gets where so many elements are open and so many have been opened before it, in
 -- the order 6, 7, 8; 0 where it has no fault. The root is closed where elements have been opened and none is open.
 unfoldable pub recordFault : List ℕ → ℕ → ℕ → ℕ → ℕ
-recordFault s at depth elements =
+recordFault s at openNow openedSoFar =
     cond (brokenAt reportLength s at) 6
-    (tagFault depth elements (eqb depth 0 && ltb 0 elements) (tagAt s at))
+    (tagFault openNow openedSoFar (eqb openNow 0 && ltb 0 openedSoFar) (tagAt s at))
 
 -- The number that record i gets.
 unfoldable pub reportFault : List ℕ → ℕ → ℕ
-reportFault s i = recordFault s (startOf s i) (depth (tagsBefore s i)) (opened (tagsBefore s i))
+reportFault s i = recordFault s (startOf s i) (depth (tagsBefore s i)) (openedCount (tagsBefore s i))
 
 -- Reading stops at record i.
 unfoldable pub reportStops : List ℕ → ℕ → Bool
@@ -44,12 +44,12 @@ reportStops s i = stopsAt (reportFault s) s i
 
 -- What a report of so many bytes is answered that ends with so many elements open and so many opened. Row 7: none may be open.
 unfoldable pub endOf : ℕ → ℕ → ℕ → Answer
-endOf size depth elements = cond (eqb depth 0) (Accepted elements) (Refused 7 size)
+endOf size openNow openedSoFar = cond (eqb openNow 0) (Accepted openedSoFar) (Refused 7 size)
 
 -- What the report is answered where reading stops at record i.
-unfoldable pub reportEnd : List ℕ → ℕ → Answer
-reportEnd s i =
-    cond (eqb (startOf s i) (length s)) (endOf (length s) (depth (tagsBefore s i)) (opened (tagsBefore s i)))
+unfoldable pub reportAnswerAt : List ℕ → ℕ → Answer
+reportAnswerAt s i =
+    cond (eqb (startOf s i) (length s)) (endOf (length s) (depth (tagsBefore s i)) (openedCount (tagsBefore s i)))
     (Refused (reportFault s i) (startOf s i))
 
 -- The record at which reading stops. Every record takes two bytes or more, so there are no more records than bytes.
@@ -58,7 +58,7 @@ lastRecord s = first (reportStops s) (length s)
 
 -- Row 5 comes first; then the first record in byte order that is at fault decides; where none is, the end.
 unfoldable pub reportAnswer : List ℕ → Answer
-reportAnswer s = cond (missized reportMost s) (Refused 5 0) (reportEnd s (lastRecord s))
+reportAnswer s = cond (missized reportMost s) (Refused 5 0) (reportAnswerAt s (lastRecord s))
 
 -- The report's tags, up to where reading stops.
 abbrev pub tagsOf : List ℕ → List Tag

@@ -38,13 +38,13 @@ abbrev pub levels : List Tag → List ℕ
 levels ts = levelsFrom 0 ts
 
 -- How many elements the tags open.
-abbrev pub opened : List Tag → ℕ
-opened ts = length (labels ts)
+abbrev pub openedCount : List Tag → ℕ
+openedCount ts = length (labels ts)
 
 -- The number that a tag gets where so many elements are open and so many have been opened, in the order 6, 7, 8; 0 where it has no
 -- fault. Row 6: a label outside 1..999. Row 7: an opening after the root closed, or a closing with nothing open. Row 8: an opening
 -- at level 64, or of a 4,097th element.
 unfoldable pub tagFault : ℕ → ℕ → Bool → Tag → ℕ
-tagFault depth elements rootClosed (opens label) =
-    cond (outside label) 6 (cond rootClosed 7 (cond (leb levelsMost depth || leb elementsMost elements) 8 0))
-tagFault depth elements rootClosed closes = cond (eqb depth 0) 7 0
+tagFault openNow openedSoFar rootClosed (opens label) =
+    cond (outside label) 6 (cond rootClosed 7 (cond (leb levelsMost openNow || leb elementsMost openedSoFar) 8 0))
+tagFault openNow openedSoFar rootClosed closes = cond (eqb openNow 0) 7 0

@@ -10,7 +10,7 @@ use lib.ListN.{length, set, length-map}
 use Rattle.terms.specs.Answer.{countOf}
 use Rattle.numbers.specs.First.{first}
 use Rattle.terms.specs.Frame.{startOf}
-use Rattle.rules.specs.Rule.{entryAt, ruleAnswer, ruleFault, ruleFaults, ruleStops, ruleEnd, takenAt}
+use Rattle.rules.specs.Rule.{entryAt, ruleAnswer, ruleFault, ruleFaults, ruleStops, ruleAnswerAt, takenAt}
 use Rattle.terms.specs.declared.answer.Answer.{Answer}
 use Rattle.terms.specs.declared.answer.Answer.the-variants.{Accepted, Refused}
 use Rattle.rules.specs.declared.rule.Entry.{Entry}
@@ -100,7 +100,7 @@ entries-more s {i} {at} m =
 
 -- The entries read of an accepted rule are its entries.
 pub entries-taken-all : (s : List ℕ) (n : ℕ) → Accepted n ≡ ruleAnswer s → entriesRead s ≡ entriesOf s
-unfolding entriesRead ruleAnswer ruleEnd
+unfolding entriesRead ruleAnswer ruleAnswerAt
 entries-taken-all s n a =
     go (ltb (length s) 1 || ltb ruleMost (length s)) (eqb (startOf s (first (ruleStops s) entriesMost)) (length s)) a ∙ sym (entries-taken s n a)
   where
@@ -159,8 +159,8 @@ module _ (s : List ℕ) where
       (first (ruleStops s) entriesMost) (first-before (ruleStops s) entriesMost)
       .within
 
-  rule-end-within : Within (length s) entriesMost (ruleEnd s (first (ruleStops s) entriesMost))
-  unfolding ruleEnd
+  rule-end-within : Within (length s) entriesMost (ruleAnswerAt s (first (ruleStops s) entriesMost))
+  unfolding ruleAnswerAt
   rule-end-within =
       within-either (length s) entriesMost _ _ (eqb (startOf s (first (ruleStops s) entriesMost)) (length s))
       (accepted-within (length s) entriesMost (first (ruleStops s) entriesMost) (first-le (ruleStops s) entriesMost))

@@ -12,7 +12,7 @@ use Rattle.numbers.specs.Bytes.{numberAt}
 use Rattle.numbers.specs.First.{first}
 use Rattle.terms.specs.Frame.{frameOf, kindAt, broken, nextOf}
 use Rattle.terms.specs.Kinds.{rowOf}
-use Rattle.rules.specs.Rule.{entryOf, entryAt, misdirected, faultyAt, fineAt, takenAt, ruleFault, ruleFaults, ruleStops, ruleEnd, ruleAnswer}
+use Rattle.rules.specs.Rule.{entryOf, entryAt, misdirected, faultyAt, fineAt, takenAt, ruleFault, ruleFaults, ruleStops, ruleAnswerAt, ruleAnswer}
 use Rattle.terms.specs.declared.answer.Answer.the-variants.{Accepted, Refused}
 use Rattle.terms.specs.declared.frame.Frame.{Frame}
 use Rattle.terms.specs.declared.frame.Frame.the-variants.{Whole, Cut, Garbled}
@@ -151,17 +151,17 @@ module _ (s : List ℕ) where
       }
 
   module _ (some : 1 ≤ length s) (few : length s ≤ ruleMost) where
-    answer-is : (i : ℕ) → first (ruleStops s) entriesMost ≡ i → ruleAnswer s ≡ ruleEnd s i
+    answer-is : (i : ℕ) → first (ruleStops s) entriesMost ≡ i → ruleAnswer s ≡ ruleAnswerAt s i
     unfolding ruleAnswer
     answer-is i e = rw (le-ltb (length s) 1 some, le-ltb ruleMost (length s) few, e)
 
     pub rule-accepts : {i at : ℕ} → RuleMid i at → i ≤ entriesMost → at ≡ length s → Accepted i ≡ ruleAnswer s
-    unfolding ruleStops ruleEnd
+    unfolding ruleStops ruleAnswerAt
     rule-accepts {i} {at} m l e = sym (answer-is i (mid-ended s (ruleFaults s) m e entriesMost l) ∙ rw (m .begins, eq-eqb at (length s) e))
 
     pub rule-refuses : {i at : ℕ} → RuleMid i at → i ≤ entriesMost → (at ≡ length s → ⊥) → (ruleFault s i at ≡ 0 → ⊥)
         → Refused (ruleFault s i at) at ≡ ruleAnswer s
-    unfolding ruleStops ruleEnd
+    unfolding ruleStops ruleAnswerAt
     rule-refuses {i} {at} m l ne f =
         sym
         (answer-is i (mid-faulty s (ruleFaults s) m ne (λ z. f (sym (faults-is m) ∙ z)) entriesMost l)

@@ -71,9 +71,9 @@ unfoldable pub ruleStops : List ℕ → ℕ → Bool
 ruleStops s i = stopsAt (ruleFaults s) s i
 
 -- What the rule is answered where reading stops at record i.
-unfoldable pub ruleEnd : List ℕ → ℕ → Answer
-ruleEnd s i = cond (eqb (startOf s i) (length s)) (Accepted i) (Refused (ruleFaults s i) (startOf s i))
+unfoldable pub ruleAnswerAt : List ℕ → ℕ → Answer
+ruleAnswerAt s i = cond (eqb (startOf s i) (length s)) (Accepted i) (Refused (ruleFaults s i) (startOf s i))
 
 -- Row 1 comes first; then the first record in byte order that is at fault decides, and where none is the rule is accepted.
 unfoldable pub ruleAnswer : List ℕ → Answer
-ruleAnswer s = cond (missized ruleMost s) (Refused 1 0) (ruleEnd s (first (ruleStops s) entriesMost))
+ruleAnswer s = cond (missized ruleMost s) (Refused 1 0) (ruleAnswerAt s (first (ruleStops s) entriesMost))

@@ -4,7 +4,7 @@ use native.Mathlib.Omega.{arith}
 use mathlib.Core.Path.{_≡_, refl, subst}
 use mathlib.Core.Bool.{Bool, true, false, cond, _||_}
 use mathlib.Core.List.{List}
-use Rattle.terms.specs.Answer.{Accepts, found, countOf, placeOf}
+use Rattle.terms.specs.Answer.{Accepts, whereAccepted, countOf, placeOf}
 use Rattle.terms.specs.declared.answer.Answer.{Answer}
 use Rattle.terms.specs.declared.answer.Answer.the-variants.{Accepted, Refused}
 use borrow.Author.Tests.{ltb-false}
@@ -14,7 +14,7 @@ use lib.Dec.{ltb}
 pub accepts-of : {r : Answer} {n : ℕ} → Accepted n ≡ r → Accepts r
 accepts-of e = subst Accepts e tt
 
-pub found-accepted : (r : Answer) (xs : List ℕ) → Accepts r → found r xs ≡ xs
+pub found-accepted : (r : Answer) (xs : List ℕ) → Accepts r → whereAccepted r xs ≡ xs
 found-accepted (Accepted n) xs a = refl
 found-accepted (Refused number place) xs a = absurd a
 

@@ -8,7 +8,7 @@ use mathlib.Core.Path.{_≡_, refl, ap, subst}
 use mathlib.Core.Bool.{true, false}
 use mathlib.Core.List.{[], _∷_, map}
 use mathlib.Core.Logic.{⊎-elim}
-use Rattle.terms.specs.Kinds.{table, noKind, rowOf, leadsBack, shapeLooksBack, looksBack}
+use Rattle.terms.specs.Kinds.{kindRows, noKind, rowOf, leadsBack, shapeLooksBack, looksBack}
 use Rattle.terms.specs.declared.kind.Row.{Row}
 
 -- P holds at n numbers from lo on: what a range of a match, or a whole table, is shown by.
@@ -25,7 +25,7 @@ each P lo (suc n) a k l h =
 -- Past the table there is no kind.
 row-none : (k : ℕ) → 14 < k → rowOf k ≡ noKind
 unfolding rowOf
-row-none k h = List·getD-eq-default table noKind {n = k} (omega arith)
+row-none k h = List·getD-eq-default kindRows noKind {n = k} (omega arith)
 
 -- Kinds 1 to 5, 7, 9, 11 and 13 look back; 6, 8, 10, 12 and 14 look ahead, and so does 0, which is no kind.
 pub kinds-back : map looksBack (0 ∷ 1 ∷ 2 ∷ 3 ∷ 4 ∷ 5 ∷ 6 ∷ 7 ∷ 8 ∷ 9 ∷ 10 ∷ 11 ∷ 12 ∷ 13 ∷ 14 ∷ [])

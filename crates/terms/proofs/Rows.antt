@@ -6,7 +6,7 @@ use native.Mathlib.Omega.{arith}
 use mathlib.Core.Path.{_≡_, refl}
 use mathlib.Core.List.{List, [], _∷_}
 use lib.ListN.{length, getD}
-use Rattle.terms.specs.Kinds.{row, noKind, table, rowOf, shapeOf, localNumbers, numbersOf}
+use Rattle.terms.specs.Kinds.{row, noKind, kindRows, rowOf, shapeOf, localNumbers, numbersOf}
 use Rattle.terms.specs.declared.kind.Axis.the-variants.{Child, Parent, Next, Previous}
 use Rattle.terms.specs.declared.kind.Local.the-variants.{Always, HasLabel, Negation, Disjunction, Conjunction}
 use Rattle.terms.specs.declared.kind.Shape.{Shape}
@@ -37,7 +37,7 @@ sorts-at {n} (more r rs) (suc k) = rw (add-suc n k, ← suc-add n k) (sorts-at r
 pub row-sort : (kind : ℕ) → Sort kind (rowOf kind)
 unfolding rowOf numbersOf localNumbers
 row-sort kind = rw zero-add at (sorts-at rows kind) where
-  rows : Sorts 0 table
+  rows : Sorts 0 kindRows
   rows =
       more no-zero (more bare (more labelled
       (more (one 3 (Here Negation) (omega arith) (omega arith) refl) (more (two 4 (Here Disjunction) (omega arith) (omega arith) refl) (more (two 5 (Here Conjunction) (omega arith) (omega arith) refl)

@@ -19,9 +19,9 @@ countOf (Accepted n) = n
 countOf (Refused number place) = 0
 
 -- What is found in an accepted string; nothing in a refused one.
-abbrev pub found {ℓ} : {A : Type ℓ} → Answer → List A → List A
-found (Accepted n) xs = xs
-found (Refused number place) xs = []
+abbrev pub whereAccepted {ℓ} : {A : Type ℓ} → Answer → List A → List A
+whereAccepted (Accepted n) xs = xs
+whereAccepted (Refused number place) xs = []
 
 -- The answer is an acceptance.
 abbrev pub Accepts : Answer → Type 0

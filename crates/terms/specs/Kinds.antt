@@ -32,15 +32,15 @@ numbersOf EveryChild = Entries
 
 -- A row: the record's length, how many two-byte numbers its body has, what these are, and its shape.
 abbrev pub row : ℕ → ℕ → Shape → Row
-row length arguments shape = record { length = length; arguments = arguments; numbers = numbersOf shape; shape = shape }
+row size arguments shape = record { length = size; arguments = arguments; numbers = numbersOf shape; shape = shape }
 
 -- What stands for a number that is no kind: length 0, which no record has.
 abbrev pub noKind : Row
 noKind = row 0 0 Nothing
 
 -- The rows of kinds 0 to 14, 0 being no kind.
-abbrev pub table : List Row
-table =
+abbrev pub kindRows : List Row
+kindRows =
     noKind
     -- 1: everywhere
     ∷ row 2 0 (Here Always)
@@ -74,7 +74,7 @@ table =
 
 -- The row of a kind.
 unfoldable pub rowOf : ℕ → Row
-rowOf kind = getD table kind noKind
+rowOf kind = getD kindRows kind noKind
 
 -- The length of a rule record of each kind; 0 for a number that is no kind.
 abbrev pub ruleLength : ℕ → ℕ

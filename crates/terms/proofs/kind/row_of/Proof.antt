@@ -3,7 +3,7 @@ use Prim.Native.Nat.{_-_, _≤_}
 use native.Mathlib.Omega.{arith}
 use mathlib.Core.Path.{_≡_, refl, ap, sym}
 use lib.ListN.{List·getD-eq-default}
-use Rattle.terms.specs.Kinds.{row, noKind, table, rowOf, axisOf, localNumbers, numbersOf}
+use Rattle.terms.specs.Kinds.{row, noKind, kindRows, rowOf, axisOf, localNumbers, numbersOf}
 use Rattle.terms.specs.declared.kind.Shape.the-variants.{SomeAlong, UntilAlong}
 use Rattle.terms.proofs.KindLaws.{each}
 use borrow.Author.Needs.{needs}
@@ -44,7 +44,7 @@ returns-5 c = let z : c .before .before .args .kind ≡ 0 = omega arith in sym (
 
 returns-6 : tie.Need-returns-6
 unfolding rowOf numbersOf localNumbers axisOf
-returns-6 c = let l : 15 ≤ c .before .before .before .before .before .args .kind = omega arith in sym (List·getD-eq-default table noKind l)
+returns-6 c = let l : 15 ≤ c .before .before .before .before .before .args .kind = omega arith in sym (List·getD-eq-default kindRows noKind l)
 
 pub row-of-spec : {M : Type 1} → statement M
 row-of-spec =
