@@ -24,6 +24,7 @@ use Rattle.grammar.proofs.Decides.{unsized-iff, sized-iff}
 use Rattle.grammar.proofs.TagRows.{mislabels, unbalances, overfills, mislabels-told, unbalances-told, overfills-told}
 use Rattle.grammar.proofs.TagRows.{tag-fault-is, numbers-distinct}
 use Rattle.terms.specs.Limits.{reportMost}
+use Rattle.terms.proofs.AnswerLaws.{Sound}
 
 -- ---- one record
 
@@ -214,6 +215,15 @@ module _ (s : List ℕ) where
   -- No number but 5, 6, 7 and 8 is given to a refused report.
   pub report-numbers : (k p : ℕ) → reportAnswer s ≡ Refused k p → (k ≡ 5) ⊎ ((k ≡ 6) ⊎ ((k ≡ 7) ⊎ (k ≡ 8)))
   report-numbers k p e = refused-numbers k p e .0
+
+  -- A refusal's number is not 0.
+  pub report-answer-sound : Sound (reportAnswer s)
+  report-answer-sound = go (reportAnswer s) refl
+    where
+      go : (a : Answer) → reportAnswer s ≡ a → Sound a
+      go (Accepted n) e z = tt
+      go (Refused k p) e z =
+          ⊎-elim (λ x. omega arith) (⊎-elim (λ x. omega arith) (⊎-elim (λ x. omega arith) (λ x. omega arith))) (report-numbers k p e)
 
   -- The place of a refusal is not past the report's end.
   pub report-place : (k p : ℕ) → reportAnswer s ≡ Refused k p → p ≤ length s

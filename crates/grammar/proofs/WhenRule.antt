@@ -5,7 +5,7 @@ use native.Mathlib.Omega.{arith}
 use native.Mathlib.Decide.{decLt}
 use mathlib.Core.Path.{_≡_, refl, subst, _∙_}
 use mathlib.Core.List.{List}
-use mathlib.Core.Logic.{_⊎_, inl, inr, _↔_, Iff·rfl, Iff·trans, Iff·and}
+use mathlib.Core.Logic.{_⊎_, inl, inr, _↔_, Iff·rfl, Iff·trans, Iff·and, ⊎-elim}
 use lib.Dec.{leb}
 use lib.ListN.{length}
 use Rattle.numbers.specs.First.{first}
@@ -25,6 +25,7 @@ use Rattle.grammar.proofs.Decides.{Decided, by-end, by-fault, answer-if
 use Rattle.grammar.proofs.Frame.{broken-told}
 use Rattle.numbers.proofs.Tells.{IsTest, fails, test-iff, or-tests, and-tests, ltb-tests, leb-tests}
 use Rattle.terms.specs.Limits.{entriesMost, labelMost, ruleMost}
+use Rattle.terms.proofs.AnswerLaws.{Sound}
 
 -- ---- the fault of one record
 
@@ -199,6 +200,15 @@ module _ (s : List ℕ) where
     go : (Refused 1 0 ≡ Refused k p) ⊎ Decided (ruleFaults s) s Accepted (Refused k p) → (k ≡ 1) ⊎ ((k ≡ 2) ⊎ ((k ≡ 3) ⊎ (k ≡ 4)))
     go (inl q) = inl (cc)
     go (inr d) = later (later-numbers k p d)
+
+  -- A refusal's number is not 0.
+  pub rule-answer-sound : Sound (ruleAnswer s)
+  rule-answer-sound = go (ruleAnswer s) refl
+    where
+      go : (a : Answer) → ruleAnswer s ≡ a → Sound a
+      go (Accepted n) e z = tt
+      go (Refused k p) e z =
+          ⊎-elim (λ x. omega arith) (⊎-elim (λ x. omega arith) (⊎-elim (λ x. omega arith) (λ x. omega arith))) (rule-numbers k p e)
 
   -- The place of a refusal is 0 or lies within the rule.
   pub rule-place : (k p : ℕ) → ruleAnswer s ≡ Refused k p → p ≤ length s
