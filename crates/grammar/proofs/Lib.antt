@@ -13,4 +13,6 @@ pub mod Fits
 pub mod Trees
 pub mod WhenReport
 pub mod ReportBytes
+pub mod Begins
 pub mod Elements
+pub mod Sizes

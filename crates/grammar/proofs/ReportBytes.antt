@@ -254,33 +254,41 @@ tags-are s t e w = ap (tagsBefore s) (report-last s (length (tagsT t)) (tree-end
 pub report-only : (t u : Tree) → bytesOf (tagsT t) ≡ bytesOf (tagsT u) → t ≡ u
 report-only t u e = tags-only t u (bytes-only (tagsT t) (tagsT u) e)
 
--- ---- a report that lost its end
+-- ---- bytes that begin others
 
 -- What is read before a record begins with what is read before an earlier one.
-tags-begin : (s : List ℕ) (m n : ℕ) → m ≤ n → (vs : List Tag) × (tagsBefore s n ≡ tagsBefore s m ++ vs)
+before-begins : (s : List ℕ) (m n : ℕ) → m ≤ n → (vs : List Tag) × (tagsBefore s n ≡ tagsBefore s m ++ vs)
 unfolding listed
-tags-begin s m zero h = let e : m ≡ 0 = omega arith in ([], rw e refl)
-tags-begin s m (suc n) h =
+before-begins s m zero h = let e : m ≡ 0 = omega arith in ([], rw e refl)
+before-begins s m (suc n) h =
     ⊎-elim (λ e. ([], rw e (sym (append-nil (tagsBefore s (suc n))))))
-    (λ l. let r = tags-begin s m n (le-of-suc-le-suc l) in (
+    (λ l. let r = before-begins s m n (le-of-suc-le-suc l) in (
       r .0 ++ (tagAt s (startOf s n) ∷ []),
       ap (λ (ts : List Tag). ts ++ (tagAt s (startOf s n) ∷ [])) (r .1) ∙ append-assoc (tagsBefore s m) (r .0) (tagAt s (startOf s n) ∷ []),
     ))
     (eq-or-lt-of-le h)
 
+-- Where the bytes of some tags begin those of others, the tags begin the others.
+pub tags-begin : (us ts : List Tag) (rest : List ℕ) → bytesOf us ++ rest ≡ bytesOf ts → (more : List Tag) × (ts ≡ us ++ more)
+tags-begin us ts rest e =
+    let s = bytesOf ts in
+    let r = tags-back us rest s (sym e) in
+    let q = tags-back ts [] s (sym (append-nil s)) in
+    let fewer : length us ≤ length ts =
+    elim (decLt (length ts) (length us)) [
+      | yes l ↦ absurd (omega (arith, start-strict s (length ts) (length us) l, r .starts, q .starts, ap length e, length-append (bytesOf us) rest))
+      | no n ↦ omega (arith, n)
+    ] in
+    let more = before-begins s (length us) (length ts) fewer in
+    (more .0, sym (q .reads) ∙ more .1 ∙ ap (λ (vs : List Tag). vs ++ more .0) (r .reads))
+
+-- ---- a report that lost its end
+
 -- A tree's bytes begin those of another tree only where both trees are one, and then nothing follows.
 tree-begins-only : (t u : Tree) (rest : List ℕ) → bytesOf (tagsT u) ≡ bytesOf (tagsT t) ++ rest → (t ≡ u) × (rest ≡ [])
 tree-begins-only t u rest e =
-    let s = bytesOf (tagsT u) in
-    let r = tags-back (tagsT t) rest s e in
-    let q = tags-back (tagsT u) [] s (sym (append-nil s)) in
-    let fewer : length (tagsT t) ≤ length (tagsT u) =
-    elim (decLt (length (tagsT u)) (length (tagsT t))) [
-      | yes l ↦ absurd (omega (arith, start-strict s (length (tagsT u)) (length (tagsT t)) l, r .starts, q .starts, ap length e, length-append (bytesOf (tagsT t)) rest))
-      | no n ↦ omega (arith, n)
-    ] in
-    let more = tags-begin s (length (tagsT t)) (length (tagsT u)) fewer in
-    let same = tags-start-only t u (more .0) [] (ap (λ (ts : List Tag). ts ++ more .0) (sym (r .reads)) ∙ sym (more .1) ∙ q .reads ∙ sym (append-nil (tagsT u))) in
+    let more = tags-begin (tagsT t) (tagsT u) rest (sym e) in
+    let same = tags-start-only t u (more .0) [] (sym (more .1) ∙ sym (append-nil (tagsT u))) in
     (same .0, empty-rest rest (omega (arith, ap (λ (v : Tree). length (bytesOf (tagsT v))) (same .0), ap length e, length-append (bytesOf (tagsT t)) rest)))
   where
     empty-rest : (l : List ℕ) → length l ≡ 0 → l ≡ []
