@@ -3,15 +3,14 @@
 use Prim.Native.Nat.{ℕ, pred, _≤_, _<_}
 use native.Mathlib.Decide.{decLt}
 use native.Mathlib.Omega.{arith}
-use borrow.Author.Tests.{lt-ltb, le-ltb, ne-eqb}
+use borrow.Author.Tests.{lt-ltb, le-ltb, ltb-false}
 use mathlib.Core.Path.{_≡_, refl, sym, ap, subst, _∙_}
 use mathlib.Core.Bool.{Bool, true, false, cond}
 use mathlib.Core.List.{List, [], _∷_, map}
-use mathlib.Core.Logic.{⊎-elim}
-use lib.Dec.{ltb, eqb}
+use lib.Dec.{ltb}
 use lib.ListN.{length, take}
 use lib.Seq.{length-take-le}
-use Rattle.terms.specs.Answer.{countOf, placeOf}
+use Rattle.terms.specs.Answer.{numberOf, countOf, placeOf, byAnswer, inOrder}
 use Rattle.rules.specs.Rule.{ruleAnswer}
 use Rattle.reports.specs.Report.{reportAnswer}
 use Rattle.terms.specs.declared.answer.Answer.{Answer}
@@ -21,14 +20,15 @@ use Rattle.terms.specs.Limits.{elementsMost, entriesMost, reportMost}
 use Rattle.grammar.specs.Columns.{tableOf}
 use Rattle.grammar.specs.Rules.{RuleEntries}
 use Rattle.grammar.proofs.Columns.{table-of-columns}
-use Rattle.grammar.proofs.WhenRule.{rule-numbers}
-use Rattle.grammar.proofs.WhenReport.{report-numbers}
+use Rattle.grammar.proofs.WhenRule.{rule-answer-sound}
+use Rattle.grammar.proofs.WhenReport.{report-answer-sound}
+use Rattle.terms.proofs.AnswerLaws.{Sound}
 use Rattle.grammar.proofs.Entries.{entries-count, entries-few, rule-entries}
 use Rattle.meaning.specs.Marks.{words, selected}
 use Rattle.meaning.proofs.Words.{words-length}
 use Rattle.layout.specs.Layout.{leastOf, roomIn, LaidOut}
 use Rattle.layout.proofs.LayoutLaws.{filled-length, least-within, within-least, laid-room, ElementsLaid, elements-laid}
-use Rattle.marking.specs.Evaluation.{accepted, refused, judged, meantWords, evaluation, written, Evaluated, roomFor, ColumnsAfter, ReportMarked, MarkedBy}
+use Rattle.marking.specs.Evaluation.{withRoom, evaluationOf, meantWords, outcome, evaluation, wordsWritten, Evaluated, roomFor, ColumnsAfter, ReportMarked, MarkedBy}
 use Rattle.marking.specs.Pass.{Marked}
 use Rattle.marking.specs.declared.report.Evaluation.{Evaluation}
 use Rattle.marking.specs.declared.report.Marking.{Marking}
@@ -52,21 +52,6 @@ pub marked-few : {es : List Entry} {ds labels marks after : List ℕ} {r : ℕ} 
     → Marked es ds labels marks r after → r ≤ n
 marked-few {es} {ds} {labels} n levels e h m =
     omega (arith, m .selected-is, selected-few (length es) (words es ds labels), words-length es ds labels, ap length e, length-take-le n levels h)
-
--- ---- refusals
-
-some-number : (k : ℕ) → (eqb k 0 ≡ false) → (A : List ℕ) → cond (eqb k 0) A [] ≡ []
-some-number k e A = rw e
-
-rule-nonzero : (rule : List ℕ) {number place : ℕ} → Refused number place ≡ ruleAnswer rule → number ≡ 0 → ⊥
-rule-nonzero rule {number} {place} a z =
-    ⊎-elim (λ e. omega arith) (⊎-elim (λ e. omega arith) (⊎-elim (λ e. omega arith) (λ e. omega arith)))
-    (rule-numbers rule number place (sym a))
-
-report-nonzero : (report : List ℕ) {number place : ℕ} → Refused number place ≡ reportAnswer report → number ≡ 0 → ⊥
-report-nonzero report {number} {place} a z =
-    ⊎-elim (λ e. omega arith) (⊎-elim (λ e. omega arith) (⊎-elim (λ e. omega arith) (λ e. omega arith)))
-    (report-numbers report number place (sym a))
 
 -- ---- once the rule has been read
 
@@ -98,13 +83,13 @@ module _ (es : List Entry) {report labels levels ups lefts : List ℕ} (marks : 
 
   -- The report is refused.
   pub by-refused : {number place : ℕ} → r ≡ Refused number place
-      → MarkedBy es report labels levels ups lefts marks (refused number place) ls ds us fs marks
-  unfolding judged
+      → MarkedBy es report labels levels ups lefts marks (evaluationOf (Refused number place) 0) ls ds us fs marks
+  unfolding withRoom
   by-refused {number} {place} e =
       let a : Refused number place ≡ reportAnswer report = sym e ∙ laid .read .answer in
       record {
         answer = rw (← a);
-        marks-are = over-kept _ marks (some-number number (ne-eqb number 0 (report-nonzero report a)) _);
+        marks-are = rw (← a) (over-kept [] marks refl);
         laid-out = laid-answered;
       }
 
@@ -113,25 +98,25 @@ module _ (es : List Entry) {report labels levels ups lefts : List ℕ} (marks : 
     accepts = sym e ∙ laid .read .answer
 
     -- The report is accepted, and there is no room for its elements.
-    pub by-short : room < n → MarkedBy es report labels levels ups lefts marks (refused 9 0) ls ds us fs marks
-    unfolding judged
+    pub by-short : room < n → MarkedBy es report labels levels ups lefts marks (evaluationOf (Refused 9 0) 0) ls ds us fs marks
+    unfolding withRoom
     by-short h =
         record {
           answer = rw (← accepts, lt-ltb (roomFor labels levels ups lefts marks) n (omega arith));
-          marks-are = over-kept _ marks refl;
+          marks-are = rw (← accepts, lt-ltb (roomFor labels levels ups lefts marks) n (omega arith)) (over-kept [] marks refl);
           laid-out = laid-answered;
         }
 
     -- The report is accepted and its elements are marked.
     pub by-room : {k : ℕ} {after : List ℕ} → n ≤ room → Marked es (take n ds) (take n ls) marks k after
-        → MarkedBy es report labels levels ups lefts marks (accepted n k) ls ds us fs after
-    unfolding judged
+        → MarkedBy es report labels levels ups lefts marks (evaluationOf (Accepted n) k) ls ds us fs after
+    unfolding withRoom
     by-room {k} {after} h m =
         let o = held marks laid e room is h in
         let q : Marked es (levelsOf report) (labelsOf report) marks k after = rw (o .levels-read, o .labels-read) at m in
         record {
-          answer = rw (← accepts, le-ltb (roomFor labels levels ups lefts marks) n (omega arith)) (ap (accepted n) (q .selected-is));
-          marks-are = q .marks-are;
+          answer = rw (← accepts, le-ltb (roomFor labels levels ups lefts marks) n (omega arith)) (ap (evaluationOf (Accepted n)) (q .selected-is));
+          marks-are = rw (← accepts, le-ltb (roomFor labels levels ups lefts marks) n (omega arith)) (q .marks-are);
           laid-out = laid-answered;
         }
 
@@ -140,13 +125,13 @@ module _ (es : List Entry) {report labels levels ups lefts : List ℕ} (marks : 
 module _ (rule report labels levels ups lefts marks : List ℕ) where
   -- The rule is refused.
   pub marked-refused : {number place : ℕ} → Refused number place ≡ ruleAnswer rule
-      → ReportMarked rule report labels levels ups lefts marks (record { answer = refused number place; entries = 0 }) labels levels ups lefts marks
-  unfolding evaluation written judged ColumnsAfter
+      → ReportMarked rule report labels levels ups lefts marks (record { answer = evaluationOf (Refused number place) 0; entries = 0 }) labels levels ups lefts marks
+  unfolding outcome evaluation wordsWritten ColumnsAfter
   marked-refused {number} {place} a =
       record {
         answer-is = rw (← a);
         entries-are = ap countOf a;
-        marks-are = rw (← a) (over-kept _ marks (some-number number (ne-eqb number 0 (rule-nonzero rule a)) _));
+        marks-are = rw (← a) (over-kept [] marks refl);
         columns-are = rw (← a) (refl, refl, refl, refl);
       }
 
@@ -154,26 +139,25 @@ module _ (rule report labels levels ups lefts marks : List ℕ) where
   pub marked-accepted : {n : ℕ} {r : Evaluation} {ls ds us fs after : List ℕ} (es : List Entry) → Accepted n ≡ ruleAnswer rule → es ≡ entriesOf rule
       → MarkedBy es report labels levels ups lefts marks r ls ds us fs after
       → ReportMarked rule report labels levels ups lefts marks (record { answer = r; entries = n }) ls ds us fs after
-  unfolding evaluation written meantWords ColumnsAfter
+  unfolding outcome evaluation wordsWritten meantWords ColumnsAfter
   marked-accepted {n} {r} {ls} {ds} {us} {fs} {after} es a e m =
       record {
         answer-is = is;
         entries-are = ap countOf a;
-        marks-are = m .marks-are ∙ rw (is, e) refl;
+        marks-are = m .marks-are ∙ rw (e, ← a) refl;
         columns-are = rw (← a) (m .laid-out);
       }
     where
       is : r ≡ evaluation rule report (roomFor labels levels ups lefts marks)
-      is = m .answer ∙ rw (e, entries-count rule, ← a)
+      is = m .answer ∙ rw (e, ← a)
 
 -- ---- columns that have room for the report
 
 -- Where the columns have room for the elements of an accepted report, they play no part in the answer.
-evaluation-room : (rule report : List ℕ) (columns room : ℕ) → ((n : ℕ) → reportAnswer report ≡ Accepted n → n ≤ columns)
-    → evaluation rule report (leastOf columns room) ≡ evaluation rule report room
-unfolding evaluation judged
-evaluation-room rule report columns room enough =
-    go (ruleAnswer rule) (reportAnswer report) refl (selected (length (entriesOf rule)) (meantWords rule report))
+outcome-room : (rule report : List ℕ) (columns room : ℕ) → ((n : ℕ) → reportAnswer report ≡ Accepted n → n ≤ columns)
+    → outcome rule report (leastOf columns room) ≡ outcome rule report room
+unfolding outcome withRoom
+outcome-room rule report columns room enough = ap (inOrder (ruleAnswer rule)) (go (reportAnswer report) refl)
   where
     short : (n : ℕ) → n ≤ columns → ltb (leastOf columns room) n ≡ ltb room n
     short n h =
@@ -182,21 +166,51 @@ evaluation-room rule report columns room enough =
           | no l ↦ le-ltb (leastOf columns room) n (within-least n columns room h (omega arith)) ∙ sym (le-ltb room n (omega arith))
         ]
 
-    go : (a b : Answer) → reportAnswer report ≡ b → (count : ℕ) → judged a b (leastOf columns room) count ≡ judged a b room count
-    go (Refused k p) b e count = refl
-    go (Accepted m) (Refused k p) e count = refl
-    go (Accepted m) (Accepted n) e count = ap (λ (s : Bool). cond s (refused 9 0) (accepted n count)) (short n (enough n e))
+    go : (b : Answer) → reportAnswer report ≡ b → withRoom (leastOf columns room) b ≡ withRoom room b
+    go (Refused k p) e = refl
+    go (Accepted n) e = ap (λ (s : Bool). cond s (Refused 9 0) (Accepted n)) (short n (enough n e))
 
 pub marked-evaluated : (rule report labels levels ups lefts marks : List ℕ) {r : Marking} {ls ds us fs after : List ℕ}
     → ((n : ℕ) → reportAnswer report ≡ Accepted n → n ≤ roomIn labels levels ups lefts)
     → ReportMarked rule report labels levels ups lefts marks r ls ds us fs after → Evaluated rule report marks (r .answer) after
-unfolding written roomFor
+unfolding evaluation wordsWritten roomFor
 marked-evaluated rule report labels levels ups lefts marks enough m =
-    let e = evaluation-room rule report (roomIn labels levels ups lefts) (length marks) enough in
+    let e = outcome-room rule report (roomIn labels levels ups lefts) (length marks) enough in
     record {
-      answer = m .answer-is ∙ e;
-      marks-are = m .marks-are ∙ ap (λ (x : Evaluation). over (cond (eqb (x .number) 0) (meantWords rule report) []) marks) e;
+      answer = m .answer-is ∙ ap (λ (a : Answer). evaluationOf a (selected (length (entriesOf rule)) (meantWords rule report))) e;
+      marks-are = m .marks-are ∙ ap (λ (a : Answer). over (byAnswer a (meantWords rule report) []) marks) e;
     }
+
+-- ---- number 0
+
+-- What is known where rule and report are taken and there is room for the elements.
+pub record BothTaken (rule report : List ℕ) (room : ℕ) : Type 0 where
+  pub entries : ℕ
+  pub elements : ℕ
+  pub rule-taken : ruleAnswer rule ≡ Accepted entries
+  pub report-taken : reportAnswer report ≡ Accepted elements
+  pub roomy : elements ≤ room
+  pub is : outcome rule report room ≡ Accepted elements
+
+-- Number 0 says so, for no refusal has it.
+pub both-taken : (rule report : List ℕ) (room : ℕ) → evaluation rule report room .number ≡ 0 → BothTaken rule report room
+unfolding evaluation outcome withRoom
+both-taken rule report room z = go (ruleAnswer rule) (reportAnswer report) (ltb room (countOf (reportAnswer report))) refl refl refl z
+  where
+    go : (a b : Answer) (short : Bool) → ruleAnswer rule ≡ a → reportAnswer report ≡ b → ltb room (countOf (reportAnswer report)) ≡ short
+        → numberOf (inOrder a (inOrder b (cond short (Refused 9 0) b))) ≡ 0 → BothTaken rule report room
+    go (Refused k p) b short f g h q = absurd (subst Sound f (rule-answer-sound rule) q)
+    go (Accepted m) (Refused k p) short f g h q = absurd (subst Sound g (report-answer-sound report) q)
+    go (Accepted m) (Accepted n) true f g h q = absurd (omega arith)
+    go (Accepted m) (Accepted n) false f g h q =
+        record {
+          entries = m;
+          elements = n;
+          rule-taken = f;
+          report-taken = g;
+          roomy = omega (arith, ltb-false room (countOf (reportAnswer report)) h, ap countOf g);
+          is = rw (f, g, rw g at h);
+        }
 
 -- ---- what the filled tables are
 

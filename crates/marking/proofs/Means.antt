@@ -11,7 +11,7 @@ use mathlib.Core.List.{List, []}
 use mathlib.Core.Logic.{⊎-elim, _↔_}
 use lib.Dec.{ltb, eqb}
 use lib.ListN.{length, getD}
-use Rattle.terms.specs.Answer.{countOf}
+use Rattle.terms.specs.Answer.{countOf, byAnswer}
 use Rattle.rules.specs.Rule.{ruleAnswer}
 use Rattle.reports.specs.Report.{reportAnswer}
 use Rattle.terms.specs.declared.answer.Answer.{Answer}
@@ -23,52 +23,41 @@ use Rattle.meaning.specs.Meaning.{Holds}
 use Rattle.meaning.specs.Marks.{wordOf, words, selected, verdict}
 use Rattle.meaning.proofs.Words.{words-length, words-at, countBelow, selected-words}
 use Rattle.meaning.proofs.Reflect.{word-iff}
-use Rattle.marking.specs.Evaluation.{judged, meantWords, evaluation, written, Evaluated}
+use Rattle.marking.specs.Evaluation.{meantWords, evaluation, wordsWritten, Evaluated}
 use Rattle.marking.specs.declared.report.Evaluation.{Evaluation}
 use Rattle.rules.specs.Entries.{entriesOf}
 use Rattle.reports.specs.Elements.{labelsOf, levelsOf}
 use Rattle.numbers.specs.Lists.{over}
 use Rattle.numbers.proofs.Lists.{over-at, over-past}
 use Rattle.numbers.specs.Bits.{bitAt}
+use Rattle.marking.proofs.AnswerLaws.{BothTaken, both-taken}
 
 module _ (rule report marks : List ℕ) (r : Evaluation) (after : List ℕ) (e : Evaluated rule report marks r after) (zero : r .number ≡ 0) where
   -- Accepted: the counts are those of the meaning, and the buffer has room.
-  pub record Counted : Type 0 where
+  pub record SelectedCounted : Type 0 where
     pub room : length (levelsOf report) ≤ length marks
     pub elements-are : r .elements ≡ length (levelsOf report)
     pub selected-are : r .selected ≡ selected (length (entriesOf rule)) (meantWords rule report)
 
-  pub counted : Counted
-  unfolding evaluation judged
-  counted =
-      go (ruleAnswer rule) (reportAnswer report) (ltb (length marks) (countOf (reportAnswer report))) refl refl refl (e .answer)
-    where
-      none : (k : ℕ) → k ≡ 0 → 1 ≤ k → Counted
-      none k z h = absurd (omega arith)
+  taken : BothTaken rule report (length marks)
+  taken = both-taken rule report (length marks) (ap (λ (x : Evaluation). x .number) (sym (e .answer)) ∙ zero)
 
-      go : (a b : Answer) (short : Bool) → ruleAnswer rule ≡ a → reportAnswer report ≡ b → ltb (length marks) (countOf (reportAnswer report)) ≡ short
-          → r ≡ judged a b (length marks) (selected (length (entriesOf rule)) (meantWords rule report)) → Counted
-      go (Refused k p) b short f g h q =
-          none k (sym (ap (λ (x : Evaluation). x .number) q) ∙ zero)
-          (⊎-elim (λ t. omega arith) (⊎-elim (λ t. omega arith) (⊎-elim (λ t. omega arith) (λ t. omega arith))) (rule-numbers rule k p f))
-      go (Accepted m) (Refused k p) short f g h q =
-          none k (sym (ap (λ (x : Evaluation). x .number) q) ∙ zero)
-          (⊎-elim (λ t. omega arith) (⊎-elim (λ t. omega arith) (⊎-elim (λ t. omega arith) (λ t. omega arith))) (report-numbers report k p g))
-      go (Accepted m) (Accepted n) true f g h q =
-          none 9 (sym (ap (λ (x : Evaluation). x .number) (rw (rw g at h) at q)) ∙ zero) (omega arith)
-      go (Accepted m) (Accepted n) false f g h q =
-          let c : length (levelsOf report) ≡ n = levels-elements report ∙ ap countOf g in
-          let l = ltb-false (length marks) (countOf (reportAnswer report)) h in
-          let s = rw (rw g at h) at q in
-          record {
-            room = omega (arith, levels-elements report);
-            elements-are = ap (λ (x : Evaluation). x .elements) s ∙ sym c;
-            selected-are = ap (λ (x : Evaluation). x .selected) s;
-          }
+  count : length (levelsOf report) ≡ taken .elements
+  count = levels-elements report ∙ ap countOf (taken .report-taken)
+
+  pub counted : SelectedCounted
+  unfolding evaluation
+  counted =
+      record {
+        room = omega (arith, count, taken .roomy);
+        elements-are = ap (λ (x : Evaluation). x .elements) (e .answer) ∙ ap countOf (taken .is) ∙ sym count;
+        selected-are = ap (λ (x : Evaluation). x .selected) (e .answer)
+            ∙ ap (λ (a : Answer). byAnswer a (selected (length (entriesOf rule)) (meantWords rule report)) 0) (taken .is);
+      }
 
   filled : after ≡ over (words (entriesOf rule) (levelsOf report) (labelsOf report)) marks
-  unfolding written meantWords
-  filled = e .marks-are ∙ ap (λ (k : ℕ). over (cond (eqb k 0) (meantWords rule report) []) marks) (ap (λ (x : Evaluation). x .number) (sym (e .answer)) ∙ zero)
+  unfolding wordsWritten meantWords
+  filled = e .marks-are ∙ ap (λ (a : Answer). over (byAnswer a (meantWords rule report) []) marks) (taken .is)
 
   -- Word s is the meaning's word of element s.
   pub word-is : (s : ℕ) → s < length (levelsOf report) → getD after s 0 ≡ wordOf (entriesOf rule) (levelsOf report) (labelsOf report) s

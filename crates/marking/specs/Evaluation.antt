@@ -6,9 +6,9 @@ use Prim.Native.Nat.{ℕ}
 use mathlib.Core.Path.{_≡_}
 use mathlib.Core.Bool.{cond}
 use mathlib.Core.List.{List, []}
-use lib.Dec.{ltb, eqb}
+use lib.Dec.{ltb}
 use lib.ListN.{length}
-use Rattle.terms.specs.Answer.{countOf}
+use Rattle.terms.specs.Answer.{numberOf, placeOf, countOf, byAnswer, inOrder}
 use Rattle.rules.specs.Rule.{ruleAnswer}
 use Rattle.reports.specs.Report.{reportAnswer}
 use Rattle.terms.specs.declared.answer.Answer.{Answer}
@@ -22,39 +22,37 @@ use Rattle.rules.specs.Entries.{entriesOf}
 use Rattle.reports.specs.Elements.{labelsOf, levelsOf}
 use Rattle.numbers.specs.Lists.{over}
 
--- Accepted: number 0, place 0, how many elements there are and how many are selected.
-abbrev pub accepted : ℕ → ℕ → Evaluation
-accepted elements selected = record { number = 0; place = 0; elements = elements; selected = selected }
+-- Row 9, after the report's own rows: there is room for fewer elements than it has.
+unfoldable pub withRoom : (room : ℕ) → Answer → Answer
+withRoom room a = inOrder a (cond (ltb room (countOf a)) (Refused 9 0) a)
 
--- Refused: the number and the place; elements and selected are 0.
-abbrev pub refused : ℕ → ℕ → Evaluation
-refused number place = record { number = number; place = place; elements = 0; selected = 0 }
-
--- The order: what the rule reader answers, then what the report reader answers, then 9 where there is room for fewer elements than
--- there are. `count` is the selected count of an accepted rule and report.
-unfoldable pub judged : Answer → Answer → (room count : ℕ) → Evaluation
-judged (Refused number place) report room count = refused number place
-judged (Accepted entries) (Refused number place) room count = refused number place
-judged (Accepted entries) (Accepted elements) room count = cond (ltb room elements) (refused 9 0) (accepted elements count)
+-- What the answer a comes to, as plain numbers: its number and place, how many elements there are, and how many of them are selected.
+-- Refused: elements and selected are 0.
+abbrev pub evaluationOf : Answer → (selected : ℕ) → Evaluation
+evaluationOf a selected = record { number = numberOf a; place = placeOf a; elements = countOf a; selected = byAnswer a selected 0 }
 
 module _ (rule report : List ℕ) where
   -- The words that the meaning gives the elements, in order.
   unfoldable pub meantWords : List ℕ
   meantWords = words (entriesOf rule) (levelsOf report) (labelsOf report)
 
-  -- What is answered, there being room for so many elements.
+  -- The order: what the rule reader answers, then what the report reader answers, then 9, there being room for so many elements.
+  unfoldable pub outcome : ℕ → Answer
+  outcome room = inOrder (ruleAnswer rule) (withRoom room (reportAnswer report))
+
+  -- What is answered.
   unfoldable pub evaluation : ℕ → Evaluation
-  evaluation room = judged (ruleAnswer rule) (reportAnswer report) room (selected (length (entriesOf rule)) meantWords)
+  evaluation room = evaluationOf (outcome room) (selected (length (entriesOf rule)) meantWords)
 
   -- What is written: the meaning's words where rule and report are accepted and there is room, nothing where they are refused.
-  unfoldable pub written : ℕ → List ℕ
-  written room = cond (eqb (evaluation room .number) 0) meantWords []
+  unfoldable pub wordsWritten : ℕ → List ℕ
+  wordsWritten room = byAnswer (outcome room) meantWords []
 
 -- What a caller promises whose columns have room for every report, so that the buffer's words alone are counted: the answer, and the
 -- buffer with what is written in its first places and the rest as it was.
 pub record Evaluated (rule report marks : List ℕ) (r : Evaluation) (marks′ : List ℕ) : Type 0 where
   pub answer : r ≡ evaluation rule report (length marks)
-  pub marks-are : marks′ ≡ over (written rule report (length marks)) marks
+  pub marks-are : marks′ ≡ over (wordsWritten rule report (length marks)) marks
 
 -- ---- with lent columns of any length
 
@@ -73,11 +71,11 @@ ColumnsAfter (Accepted n) report labels levels ups lefts labels′ levels′ ups
 pub record ReportMarked (rule report labels levels ups lefts marks : List ℕ) (r : Marking) (labels′ levels′ ups′ lefts′ marks′ : List ℕ) : Type 0 where
   pub answer-is : r .answer ≡ evaluation rule report (roomFor labels levels ups lefts marks)
   pub entries-are : r .entries ≡ countOf (ruleAnswer rule)
-  pub marks-are : marks′ ≡ over (written rule report (roomFor labels levels ups lefts marks)) marks
+  pub marks-are : marks′ ≡ over (wordsWritten rule report (roomFor labels levels ups lefts marks)) marks
   pub columns-are : ColumnsAfter (ruleAnswer rule) report labels levels ups lefts labels′ levels′ ups′ lefts′
 
 -- The same once the rule has been read: its entries are es.
 pub record MarkedBy (es : List Entry) (report labels levels ups lefts marks : List ℕ) (r : Evaluation) (labels′ levels′ ups′ lefts′ marks′ : List ℕ) : Type 0 where
-  pub answer : r ≡ judged (Accepted (length es)) (reportAnswer report) (roomFor labels levels ups lefts marks) (selected (length es) (words es (levelsOf report) (labelsOf report)))
-  pub marks-are : marks′ ≡ over (cond (eqb (r .number) 0) (words es (levelsOf report) (labelsOf report)) []) marks
+  pub answer : r ≡ evaluationOf (withRoom (roomFor labels levels ups lefts marks) (reportAnswer report)) (selected (length es) (words es (levelsOf report) (labelsOf report)))
+  pub marks-are : marks′ ≡ over (byAnswer (withRoom (roomFor labels levels ups lefts marks) (reportAnswer report)) (words es (levelsOf report) (labelsOf report)) []) marks
   pub laid-out : LaidOut report labels levels ups lefts (reportAnswer report) labels′ levels′ ups′ lefts′

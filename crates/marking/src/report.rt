@@ -5,7 +5,8 @@ ghost use lib.ListN.{length};
 ghost use Rattle.grammar.specs.Columns.{tableOf};
 ghost use Rattle.grammar.specs.Rules.{RuleEntries};
 ghost use Rattle.terms.specs.Limits.{reportMost};
-ghost use Rattle.marking.specs.Evaluation.{refused, MarkedBy, ReportMarked};
+ghost use Rattle.terms.specs.declared.answer.Answer.the-variants.{Refused};
+ghost use Rattle.marking.specs.Evaluation.{evaluationOf, MarkedBy, ReportMarked};
 use crate::elements::mark_elements;
 use layout::columns::least;
 use layout::columns::least_of_four;
@@ -33,7 +34,7 @@ pub struct Marking {
 // A refusal.
 fn refuse(number: u32, place: usize) -> Evaluation
     requires { ⌜ place ≤ reportMost ⌝ }
-    ensures { λ r. ⌜ r ≡ refused number place ⌝ }
+    ensures { λ r. ⌜ r ≡ evaluationOf (Refused number place) 0 ⌝ }
 {
     Evaluation {
         number: number,
