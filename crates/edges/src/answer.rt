@@ -3,7 +3,7 @@ ghost use Prim.Native.Nat.{_≤_};
 ghost use lib.ListN.{length};
 use crate::line::NONE;
 use evaluate::evaluate::pz_evaluate;
-use judge::judge::put_record;
+use judge::judge::put_printout;
 
 pub(crate) fn put_unread() {
     io::write_all(1, b" cannot be read\n");
@@ -64,7 +64,7 @@ fn put_case(rule: &[u8], report: &[u8], words: usize)
 // Puts the record that the program prints.
 fn put_told(input: &[u8]) {
     let mut told = [0u8; 81920];
-    let n = put_record(input, &mut told);
+    let n = put_printout(input, &mut told);
     put_byte(b'\n');
     io::write_all(1, &told[..n]);
 }

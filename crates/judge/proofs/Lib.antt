@@ -1,4 +1,4 @@
--- Proofs of the record: the input's two halves, then the text of what is decided of them.
+-- Proofs of the printout: the input's two halves, then the text of what is decided of them.
 pub mod SplitLaws
-pub mod RecordLaws
+pub mod PrintoutLaws
 pub mod Enough

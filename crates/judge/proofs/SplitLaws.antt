@@ -11,7 +11,7 @@ use lib.Seq.{take-all}
 use Rattle.text.specs.Text.{refusedLine}
 use Rattle.text.specs.Rendered.{Rendered}
 use Rattle.judge.specs.Input.{ruleIn, reportIn, ruleEnd, unsplit, split, splitOf}
-use Rattle.judge.specs.Output.{judgedRecord, splitRecord, recordOf}
+use Rattle.judge.specs.Output.{printoutOfBoth, printoutAt, printoutOf}
 use Rattle.judge.specs.declared.split.Halves.{Halves}
 
 pub split-short : (s : List ℕ) → length s < 2 → unsplit ≡ splitOf s
@@ -43,20 +43,24 @@ split-fine s w e f = go (ltb (length s) 2) (ltb (length s) (ruleEnd s)) refl ref
         let k = ap (λ (x : Halves). x .end) h in
         (omega (arith, k), omega (arith, k, ltb-false (length s) (ruleEnd s) q))
 
--- The record of an input is that of its halves where it has its rule, else refusal 1.
-pub record-rendered : (s out after : List ℕ) (n : ℕ) (w : Halves) → w ≡ splitOf s → (b : Bool) → w .fits ≡ b
-    → Rendered (cond b (judgedRecord (ruleIn s (w .end)) (reportIn s (w .end))) (refusedLine 1 0)) out n after
-    → Rendered (recordOf s) out n after
-unfolding splitRecord
-record-rendered s out after n w e b f h =
-    subst (λ (t : List ℕ). Rendered t out n after)
-    (ap (λ (c : Bool). cond c (judgedRecord (ruleIn s (w .end)) (reportIn s (w .end))) (refusedLine 1 0)) (sym f) ∙ ap (splitRecord s) e) h
+-- The printout of an input is that of its halves where it has its rule, else refusal 1.
+pub printout-halves : (s : List ℕ) (w : Halves) (b : Bool) → w .fits ≡ b
+    → cond b (printoutOfBoth (ruleIn s (w .end)) (reportIn s (w .end))) (refusedLine 1 0) ≡ printoutAt s w
+unfolding printoutAt printoutOfBoth
+printout-halves s w true f = rw f
+printout-halves s w false f = rw f
+
+pub printout-rendered : (s out after : List ℕ) (n : ℕ) (w : Halves) → w ≡ splitOf s → (b : Bool) → w .fits ≡ b
+    → Rendered (cond b (printoutOfBoth (ruleIn s (w .end)) (reportIn s (w .end))) (refusedLine 1 0)) out n after
+    → Rendered (printoutOf s) out n after
+printout-rendered s out after n w e b f h =
+    subst (λ (t : List ℕ). Rendered t out n after) (printout-halves s w b f ∙ ap (printoutAt s) e) h
 
 -- All that follows the rule's end is a slice to the input's end.
 pub halves-rendered : (s out after : List ℕ) (end n : ℕ)
-    → Rendered (judgedRecord (take (end - 2) (drop 2 s)) (take (length s - end) (drop end s))) out n after
-    → Rendered (judgedRecord (ruleIn s end) (reportIn s end)) out n after
+    → Rendered (printoutOfBoth (take (end - 2) (drop 2 s)) (take (length s - end) (drop end s))) out n after
+    → Rendered (printoutOfBoth (ruleIn s end) (reportIn s end)) out n after
 unfolding ruleIn reportIn
 halves-rendered s out after end n h =
-    subst (λ (t : List ℕ). Rendered (judgedRecord (take (end - 2) (drop 2 s)) t) out n after)
+    subst (λ (t : List ℕ). Rendered (printoutOfBoth (take (end - 2) (drop 2 s)) t) out n after)
     (take-all (length s - end) (drop end s) (simp length-drop (omega arith))) h

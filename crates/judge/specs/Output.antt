@@ -1,14 +1,15 @@
--- The record that the program prints for an input. Document 01, "The program".
+-- What the program prints for an input. Document 01, "The program".
 -- Shuts out: an element without its line; a verdict that is not the meaning's; a refusal with another number or place.
 -- Assumes nothing.
 use Prim.Native.Nat.{ℕ}
 use mathlib.Core.Bool.{cond}
 use mathlib.Core.List.{List}
-use lib.Dec.{eqb}
 use lib.ListN.{length}
 use Rattle.meaning.specs.Marks.{verdict, selected}
-use Rattle.marking.specs.Evaluation.{evaluation, meantWords}
-use Rattle.marking.specs.declared.report.Evaluation.{Evaluation}
+use Rattle.terms.specs.Answer.{numberOf, placeOf, byAnswer, inOrder}
+use Rattle.terms.specs.declared.answer.Answer.{Answer}
+use Rattle.terms.specs.declared.answer.Answer.the-variants.{Accepted, Refused}
+use Rattle.marking.specs.Evaluation.{outcome, meantWords}
 use Rattle.text.specs.Text.{refusedLine, acceptedText}
 use Rattle.judge.specs.Input.{splitOf, ruleIn, reportIn}
 use Rattle.judge.specs.declared.split.Halves.{Halves}
@@ -20,23 +21,29 @@ use Rattle.reports.specs.Elements.{labelsOf, levelsOf}
 abbrev pub room : ℕ
 room = elementsMost
 
+-- The text of an answer: the refusal's line where it is a refusal.
+abbrev pub printed : Answer → (accepted : List ℕ) → List ℕ
+printed a accepted = byAnswer a accepted (refusedLine (numberOf a) (placeOf a))
+
 -- The text of an accepted rule and report: each element with its label, its level and the meaning's verdict.
-unfoldable pub acceptedRecord : (rule report : List ℕ) → List ℕ
-acceptedRecord rule report =
+unfoldable pub acceptedPrintout : (rule report : List ℕ) → List ℕ
+acceptedPrintout rule report =
     acceptedText (labelsOf report) (levelsOf report) (verdict (entriesOf rule) (levelsOf report) (labelsOf report))
     (length (levelsOf report)) (selected (length (entriesOf rule)) (meantWords rule report))
 
--- The text of an evaluation: the refusal's line where its number is not 0.
-unfoldable pub toldAs : (rule report : List ℕ) → Evaluation → List ℕ
-toldAs rule report r = cond (eqb (r .number) 0) (acceptedRecord rule report) (refusedLine (r .number) (r .place))
-
 -- The text of a rule and a report.
-unfoldable pub judgedRecord : (rule report : List ℕ) → List ℕ
-judgedRecord rule report = toldAs rule report (evaluation rule report room)
+unfoldable pub printoutOfBoth : (rule report : List ℕ) → List ℕ
+printoutOfBoth rule report = printed (outcome rule report room) (acceptedPrintout rule report)
 
--- The text of an input: refusal 1 where it does not have its rule.
-unfoldable pub splitRecord : List ℕ → Halves → List ℕ
-splitRecord s w = cond (w .fits) (judgedRecord (ruleIn s (w .end)) (reportIn s (w .end))) (refusedLine 1 0)
+-- Refusal 1 comes before all others where the input does not have its rule.
+abbrev pub splitAnswer : Halves → Answer
+splitAnswer w = cond (w .fits) (Accepted 0) (Refused 1 0)
 
-abbrev pub recordOf : List ℕ → List ℕ
-recordOf s = splitRecord s (splitOf s)
+-- The text of an input, by where its rule ends.
+unfoldable pub printoutAt : List ℕ → Halves → List ℕ
+printoutAt s w =
+    printed (inOrder (splitAnswer w) (outcome (ruleIn s (w .end)) (reportIn s (w .end)) room))
+    (acceptedPrintout (ruleIn s (w .end)) (reportIn s (w .end)))
+
+abbrev pub printoutOf : List ℕ → List ℕ
+printoutOf s = printoutAt s (splitOf s)

@@ -1,9 +1,9 @@
-// The record of an input, as bytes in a buffer that always has room for it.
+// The printout of an input, as bytes in a buffer that always has room for it.
 ghost use Prim.Native.Nat.{_≤_};
 ghost use lib.ListN.{length};
 ghost use Rattle.text.specs.Rendered.{Rendered};
 ghost use Rattle.judge.specs.Input.{ruleIn, reportIn};
-ghost use Rattle.judge.specs.Output.{judgedRecord, recordOf};
+ghost use Rattle.judge.specs.Output.{printoutOfBoth, printoutOf};
 use crate::split::split;
 use marking::report::mark_report;
 use terms::limits::ELEMENTS_MOST;
@@ -11,9 +11,9 @@ use text::put::TEXT_BYTES;
 use text::render::put_accepted;
 use text::render::put_refused;
 
-// Puts the record of a rule and a report. Both are read once, in columns that have room for any report.
+// Puts the printout of a rule and a report. Both are read once, in columns that have room for any report.
 fn put_halves(rule: &[u8], report: &[u8], out: &mut [u8; TEXT_BYTES]) -> usize
-    ensures { λ r. ⌜ Rendered (judgedRecord (now (rule .entry)) (now (report .entry))) (now (out .entry)) r (now (out .exit)) ⌝ }
+    ensures { λ r. ⌜ Rendered (printoutOfBoth (now (rule .entry)) (now (report .entry))) (now (out .entry)) r (now (out .exit)) ⌝ }
 {
     let mut labels = [0u16; ELEMENTS_MOST];
     let mut levels = [0u16; ELEMENTS_MOST];
@@ -45,17 +45,17 @@ fn put_halves(rule: &[u8], report: &[u8], out: &mut [u8; TEXT_BYTES]) -> usize
     }
 }
 
-// Puts the record of an input, the rule's end being known.
+// Puts the printout of an input, the rule's end being known.
 fn put_split(input: &[u8], end: usize, out: &mut [u8; TEXT_BYTES]) -> usize
     requires { ⌜ (2 ≤ end) × (end ≤ length (now input)) ⌝ }
-    ensures { λ r. ⌜ Rendered (judgedRecord (ruleIn (now (input .entry)) end) (reportIn (now (input .entry)) end)) (now (out .entry)) r (now (out .exit)) ⌝ }
+    ensures { λ r. ⌜ Rendered (printoutOfBoth (ruleIn (now (input .entry)) end) (reportIn (now (input .entry)) end)) (now (out .entry)) r (now (out .exit)) ⌝ }
 {
     put_halves(&input[2..end], &input[end..], out)
 }
 
-// Puts the record of an input.
-pub fn put_record(input: &[u8], out: &mut [u8; TEXT_BYTES]) -> usize
-    ensures { λ r. ⌜ Rendered (recordOf (now (input .entry))) (now (out .entry)) r (now (out .exit)) ⌝ }
+// Puts the printout of an input.
+pub fn put_printout(input: &[u8], out: &mut [u8; TEXT_BYTES]) -> usize
+    ensures { λ r. ⌜ Rendered (printoutOf (now (input .entry))) (now (out .entry)) r (now (out .exit)) ⌝ }
 {
     let s = split(input);
     if s.fits {

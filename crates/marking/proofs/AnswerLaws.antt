@@ -22,7 +22,7 @@ use Rattle.grammar.specs.Rules.{RuleEntries}
 use Rattle.grammar.proofs.Columns.{table-of-columns}
 use Rattle.grammar.proofs.WhenRule.{rule-answer-sound}
 use Rattle.grammar.proofs.WhenReport.{report-answer-sound}
-use Rattle.terms.proofs.AnswerLaws.{Sound}
+use Rattle.terms.proofs.AnswerLaws.{Sound, order-sound}
 use Rattle.grammar.proofs.Entries.{entries-count, entries-few, rule-entries}
 use Rattle.meaning.specs.Marks.{words, selected}
 use Rattle.meaning.proofs.Words.{words-length}
@@ -183,6 +183,21 @@ marked-evaluated rule report labels levels ups lefts marks enough m =
 
 -- ---- number 0
 
+-- No refusal has it.
+room-sound : (room : ℕ) (a : Answer) → Sound a → Sound (withRoom room a)
+unfolding withRoom
+room-sound room a s = order-sound a (cond (ltb room (countOf a)) (Refused 9 0) a) s (go (ltb room (countOf a)))
+  where
+    go : (b : Bool) → Sound (cond b (Refused 9 0) a)
+    go true z = absurd (omega arith)
+    go false z = s z
+
+pub outcome-sound : (rule report : List ℕ) (room : ℕ) → Sound (outcome rule report room)
+unfolding outcome
+outcome-sound rule report room =
+    order-sound (ruleAnswer rule) (withRoom room (reportAnswer report)) (rule-answer-sound rule)
+    (room-sound room (reportAnswer report) (report-answer-sound report))
+
 -- What is known where rule and report are taken and there is room for the elements.
 pub record BothTaken (rule report : List ℕ) (room : ℕ) : Type 0 where
   pub entries : ℕ
@@ -192,7 +207,7 @@ pub record BothTaken (rule report : List ℕ) (room : ℕ) : Type 0 where
   pub roomy : elements ≤ room
   pub is : outcome rule report room ≡ Accepted elements
 
--- Number 0 says so, for no refusal has it.
+-- Number 0 says so.
 pub both-taken : (rule report : List ℕ) (room : ℕ) → evaluation rule report room .number ≡ 0 → BothTaken rule report room
 unfolding evaluation outcome withRoom
 both-taken rule report room z = go (ruleAnswer rule) (reportAnswer report) (ltb room (countOf (reportAnswer report))) refl refl refl z

@@ -11,9 +11,9 @@ use crate::elements::mark_elements;
 use layout::columns::least;
 use layout::columns::least_of_four;
 use layout::layout::lay_out;
+use rules::table::read_entries;
 use terms::answer::Answer;
 use terms::limits::ENTRIES_MOST;
-use rules::table::read_entries;
 
 // What a whole report is answered: document 01's number, the place, how many elements there are and
 // how many of them are selected. Refused: elements and selected are 0.

@@ -7,7 +7,7 @@ use mathlib.Core.List.{List}
 use Rattle.terms.specs.Answer.{numberOf, placeOf, countOf, byAnswer, whereAccepted, inOrder, numbered, Accepts}
 use Rattle.terms.specs.declared.answer.Answer.{Answer}
 use Rattle.terms.specs.declared.answer.Answer.the-variants.{Accepted, Refused}
-use borrow.Author.Tests.{ltb-false, eqb-true, eqb-false}
+use borrow.Author.Tests.{ltb-false, eqb-true, eqb-false, ne-eqb}
 use lib.Dec.{ltb, eqb}
 
 -- An answer that is an acceptance, from the acceptance itself.
@@ -41,7 +41,12 @@ numbered-sound number count = go (eqb number 0) refl
     go true e z = tt
     go false e z = absurd (eqb-false number 0 e z)
 
--- The number of such an answer is the table's, and its place is 0.
+-- What depends on an answer that is sound depends on whether its number is 0.
+pub sound-by {ℓ} : {A : Type ℓ} (a : Answer) → Sound a → (x y : A) → byAnswer a x y ≡ cond (eqb (numberOf a) 0) x y
+sound-by (Accepted n) s x y = refl
+sound-by (Refused number place) s x y = rw (ne-eqb number 0 s)
+
+-- The number of what a table answers is the table's, and its place is 0.
 pub numbered-number : (number count : ℕ) → numberOf (numbered number count) ≡ number
 unfolding numbered
 numbered-number number count = go (eqb number 0) refl
@@ -58,7 +63,7 @@ numbered-place number count = go (eqb number 0)
     go true = refl
     go false = refl
 
--- What depends on such an answer depends on whether the number is 0.
+-- What depends on it depends on whether the number is 0.
 pub numbered-by {ℓ} : {A : Type ℓ} (number count : ℕ) (x y : A) → byAnswer (numbered number count) x y ≡ cond (eqb number 0) x y
 unfolding numbered
 numbered-by number count x y = go (eqb number 0)

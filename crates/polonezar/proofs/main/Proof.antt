@@ -2,7 +2,7 @@
 use borrow.Author.Needs.{needs}
 use mathlib.Core.Path.{sym}
 use lib.Seq.{length-take-le}
-use Rattle.judge.proofs.RecordLaws.{rendered-room}
+use Rattle.judge.proofs.PrintoutLaws.{rendered-room}
 use Rattle.polonezar.proofs.main.Statement.{statement}
 use Rattle.polonezar.proofs.main.Tie as tie
 
@@ -21,14 +21,14 @@ array-share-prefix-input c = search needs
 slice-aggregate-put-record : tie.Need-slice-aggregate-put-record
 slice-aggregate-put-record c = search needs
 
-put-record-requires : tie.Need-put-record-requires
-put-record-requires c κs = search needs
+put-printout-requires : tie.Need-put-record-requires
+put-printout-requires c κs = search needs
 
 array-share-prefix-out : tie.Need-array-share-prefix-out
-array-share-prefix-out c = rendered-room _ _ _ _ (search needs) (c .put-record .ensures)
+array-share-prefix-out c = rendered-room _ _ _ _ (search needs) (c .put-printout .ensures)
 
 slice-aggregate-write-all : tie.Need-slice-aggregate-write-all
-slice-aggregate-write-all c = sym (length-take-le _ _ (rendered-room _ _ _ _ (search needs) (c .before .put-record .ensures)))
+slice-aggregate-write-all c = sym (length-take-le _ _ (rendered-room _ _ _ _ (search needs) (c .before .put-printout .ensures)))
 
 write-all-requires : tie.Need-write-all-requires
 write-all-requires c κs = search needs
@@ -54,7 +54,7 @@ main-spec =
     read-full-requires
     array-share-prefix-input
     slice-aggregate-put-record
-    put-record-requires
+    put-printout-requires
     array-share-prefix-out
     slice-aggregate-write-all
     write-all-requires

@@ -4,7 +4,7 @@ use mathlib.Core.Bool.{true, false}
 use lib.ListN.{length-replicate}
 use borrow.Author.Tests.{eq-eqb, ne-eqb}
 use Rattle.terms.specs.Limits.{elementsMost}
-use Rattle.judge.proofs.RecordLaws.{marked-told, accepted-with, accepted-rendered, judged-rendered}
+use Rattle.judge.proofs.PrintoutLaws.{marked-told, accepted-with, accepted-rendered, both-rendered}
 use borrow.Author.Needs.{needs}
 use Rattle.judge.proofs.judge.put_halves.Statement.{statement}
 use Rattle.judge.proofs.judge.put_halves.Tie as tie
@@ -50,14 +50,14 @@ returns c =
     let l = length-replicate {A = ℕ} elementsMost 0 in
     let m = c .before .before .before .before .before .before .before .before .before .before .before .before .before .before .before .before .mark-report in
     let a = accepted-with _ _ _ _ _ _ _ l l l l (m .ensures) (search needs) in
-    judged-rendered _ _ _ _ _ _ _ _ (marked-told _ _ _ _ _ _ _ l l l l (m .ensures)) (search needs) true
+    both-rendered _ _ _ _ _ _ _ _ (marked-told _ _ _ _ _ _ _ l l l l (m .ensures)) (search needs) true
     (eq-eqb (m .result .answer .number) 0 (search needs)) (accepted-rendered _ _ _ _ _ _ _ _ a (c .put-accepted .ensures))
 
 returns-2 : tie.Need-returns-2
 returns-2 c =
     let l = length-replicate {A = ℕ} elementsMost 0 in
     let m = c .before .before .before .before .before .before .before .before .before .before .before .mark-report in
-    judged-rendered _ _ _ _ _ _ _ _ (marked-told _ _ _ _ _ _ _ l l l l (m .ensures)) (search needs) false
+    both-rendered _ _ _ _ _ _ _ _ (marked-told _ _ _ _ _ _ _ l l l l (m .ensures)) (search needs) false
     (ne-eqb (m .result .answer .number) 0 (search needs)) (c .put-refused .ensures)
 
 pub put-halves-spec : {M : Type 1} → statement M

@@ -9,7 +9,8 @@ use mathlib.Core.Logic.{⊎-elim}
 use lib.Dec.{eqb}
 use lib.ListN.{length, getD}
 use lib.Seq.{length-sets}
-use Rattle.terms.specs.Answer.{countOf, Accepts}
+use Rattle.terms.specs.Answer.{numberOf, placeOf, countOf, Accepts}
+use Rattle.terms.proofs.AnswerLaws.{sound-by}
 use Rattle.rules.specs.Rule.{ruleAnswer}
 use Rattle.reports.specs.Report.{reportAnswer}
 use Rattle.terms.specs.declared.answer.Answer.{Answer}
@@ -21,14 +22,14 @@ use Rattle.grammar.proofs.Elements.{elements-count, levels-elements, elements-f
 use Rattle.meaning.specs.Marks.{wordOf, verdict, selected}
 use Rattle.layout.specs.Layout.{LaidOut}
 use Rattle.layout.proofs.LayoutLaws.{room-for-any}
-use Rattle.marking.specs.Evaluation.{judged, evaluation, meantWords, Evaluated, ColumnsAfter, ReportMarked}
+use Rattle.marking.specs.Evaluation.{outcome, evaluation, meantWords, Evaluated, ColumnsAfter, ReportMarked}
 use Rattle.marking.specs.declared.report.Evaluation.{Evaluation}
 use Rattle.marking.specs.declared.report.Marking.{Marking}
-use Rattle.marking.proofs.AnswerLaws.{marked-evaluated}
+use Rattle.marking.proofs.AnswerLaws.{marked-evaluated, outcome-sound, both-taken}
 use Rattle.marking.proofs.Means.{counted, word-is}
 use Rattle.text.specs.Text.{lineOf, elementLines, acceptedLines, acceptedText, headerLine, closingLine, refusedLine}
 use Rattle.text.specs.Rendered.{verdictIn, clamped, tableText, putAt, Rendered}
-use Rattle.judge.specs.Output.{room, acceptedRecord, toldAs, judgedRecord}
+use Rattle.judge.specs.Output.{room, acceptedPrintout, printoutOfBoth}
 use Rattle.terms.specs.Limits.{elementsMost}
 use Rattle.rules.specs.Entries.{entriesOf}
 use Rattle.reports.specs.Elements.{labelsOf, levelsOf}
@@ -55,26 +56,6 @@ module _ (labels levels labels′ levels′ : List ℕ) (v v′ : ℕ → Bool) 
   unfolding acceptedText acceptedLines
   text-same n chosen same =
       ap (λ (ls : List (List ℕ)). flatten (headerLine ∷ (ls ++ (closingLine chosen n ∷ [])))) (lines-same n same)
-
--- ---- what number 0 says
-
--- Number 0 is given only where the rule and the report are accepted.
-pub both-accepted : (rule report : List ℕ) (room : ℕ) → evaluation rule report room .number ≡ 0
-    → (m : ℕ) × (ruleAnswer rule ≡ Accepted m) × Accepts (reportAnswer report)
-unfolding evaluation judged
-both-accepted rule report room z = go (ruleAnswer rule) (reportAnswer report) refl refl z
-  where
-    none : {P : Type 0} (k : ℕ) → k ≡ 0 → 1 ≤ k → P
-    none k z h = absurd (omega arith)
-
-    go : (a b : Answer) → ruleAnswer rule ≡ a → reportAnswer report ≡ b
-        → judged a b room (selected (length (entriesOf rule)) (meantWords rule report)) .number ≡ 0
-        → (m : ℕ) × (ruleAnswer rule ≡ Accepted m) × Accepts (reportAnswer report)
-    go (Accepted m) (Accepted n) f g q = (m, f, subst Accepts (sym g) tt)
-    go (Accepted m) (Refused k p) f g q =
-        none k q (⊎-elim (λ t. omega arith) (⊎-elim (λ t. omega arith) (⊎-elim (λ t. omega arith) (λ t. omega arith))) (report-numbers report k p g))
-    go (Refused k p) b f g q =
-        none k q (⊎-elim (λ t. omega arith) (⊎-elim (λ t. omega arith) (⊎-elim (λ t. omega arith) (λ t. omega arith))) (rule-numbers rule k p f))
 
 -- What is known once the marking has accepted: the words, the labels and the levels in the tables, and the counts, are the meaning's.
 pub record AcceptedWith (rule report marks labels levels : List ℕ) (entries elements chosen : ℕ) : Type 0 where
@@ -105,15 +86,15 @@ module _ (rule report labels levels ups lefts marks : List ℕ) {r : Marking} {l
   unfolding ColumnsAfter
   accepted-with z =
       let e = marked-told in
-      let both = both-accepted rule report (length marks) (ap (λ (x : Evaluation). x .number) (sym (e .answer)) ∙ z) in
+      let both = both-taken rule report (length marks) (ap (λ (x : Evaluation). x .number) (sym (e .answer)) ∙ z) in
       let n = counted rule report marks (r .answer) after e z in
-      let laid : LaidOut report labels levels ups lefts (reportAnswer report) ls ds us fs = rw (both .1) at (m .columns-are) in
-      let lists = taken-lists report (both .2) in
+      let laid : LaidOut report labels levels ups lefts (reportAnswer report) ls ds us fs = rw (both .rule-taken) at (m .columns-are) in
+      let lists = taken-lists report (subst Accepts (sym (both .report-taken)) tt) in
       let kl : ls ≡ over (labelsOf report) labels = laid .read .labels-are ∙ ap (λ (xs : List ℕ). over xs labels) (lists .0) in
       let kd : ds ≡ over (levelsOf report) levels = laid .read .levels-are ∙ ap (λ (xs : List ℕ). over xs levels) (lists .1) in
       let same : length (labelsOf report) ≡ length (levelsOf report) = elements-count report ∙ sym (levels-elements report) in
       record {
-        some-entry = rw (m .entries-are ∙ ap countOf (both .1)) (entries-some rule (both .0) (both .1));
+        some-entry = rw (m .entries-are ∙ ap countOf (both .rule-taken)) (entries-some rule (both .entries) (both .rule-taken));
         entries-are = m .entries-are ∙ sym (entries-count rule);
         marks-are = word-is rule report marks (r .answer) after e z;
         labels-are = λ k h. held-at (labelsOf report) labels k kl (omega (arith, few report)) (omega arith);
@@ -122,7 +103,7 @@ module _ (rule report labels levels ups lefts marks : List ℕ) {r : Marking} {l
         chosen-are = n .selected-are;
       }
 
--- ---- the text of the tables is the record
+-- ---- the text of the tables is the printout
 
 clamped-few : (n : ℕ) → n ≤ elementsMost → clamped n ≡ n
 unfolding clamped
@@ -139,29 +120,32 @@ module _ (rule report marks labels levels : List ℕ) (entries elements chosen :
   unfolding verdict
   line-is k h = rw (a .labels-are k h, a .levels-are k h, a .marks-are k h, last-is)
 
-  table-is : tableText labels levels marks (entries - 1) elements chosen ≡ acceptedRecord rule report
-  unfolding acceptedRecord
+  table-is : tableText labels levels marks (entries - 1) elements chosen ≡ acceptedPrintout rule report
+  unfolding acceptedPrintout
   table-is =
       ap (λ (n : ℕ). acceptedText labels levels (verdictIn marks (entries - 1)) n chosen) (ap clamped (a .elements-are) ∙ clamped-few (length (levelsOf report)) (few report))
       ∙ text-same labels levels (labelsOf report) (levelsOf report) (verdictIn marks (entries - 1)) (verdict (entriesOf rule) (levelsOf report) (labelsOf report)) (length (levelsOf report)) chosen line-is
       ∙ ap (λ (c : ℕ). acceptedText (labelsOf report) (levelsOf report) (verdict (entriesOf rule) (levelsOf report) (labelsOf report)) (length (levelsOf report)) c) (a .chosen-are)
 
   pub accepted-rendered : {out after : List ℕ} {r : ℕ} → Rendered (tableText labels levels marks (entries - 1) elements chosen) out r after
-      → Rendered (acceptedRecord rule report) out r after
+      → Rendered (acceptedPrintout rule report) out r after
   accepted-rendered {out} {after} {r} h = subst (λ (t : List ℕ). Rendered t out r after) table-is h
 
 -- ---- accepted or refused
 
--- What the evaluator answered is told, as the record where its number is 0 and as the refusal else.
-pub judged-rendered : (rule report marks marks₁ out after : List ℕ) (n : ℕ) (r : Evaluation) → Evaluated rule report marks r marks₁
+-- What was answered is printed, as the accepted text where its number is 0 and as the refusal else.
+pub both-rendered : (rule report marks marks₁ out after : List ℕ) (n : ℕ) (r : Evaluation) → Evaluated rule report marks r marks₁
     → length marks ≡ room → (b : Bool) → eqb (r .number) 0 ≡ b
-    → Rendered (cond b (acceptedRecord rule report) (refusedLine (r .number) (r .place))) out n after
-    → Rendered (judgedRecord rule report) out n after
-unfolding judgedRecord toldAs
-judged-rendered rule report marks marks₁ out after n r e long b z h =
+    → Rendered (cond b (acceptedPrintout rule report) (refusedLine (r .number) (r .place))) out n after
+    → Rendered (printoutOfBoth rule report) out n after
+unfolding printoutOfBoth evaluation
+both-rendered rule report marks marks₁ out after n r e long b z h =
+    let o = outcome rule report room in
+    let is : r ≡ evaluation rule report room = e .answer ∙ ap (evaluation rule report) long in
     subst (λ (t : List ℕ). Rendered t out n after)
-    (ap (λ (c : Bool). cond c (acceptedRecord rule report) (refusedLine (r .number) (r .place))) (sym z)
-    ∙ ap (toldAs rule report) (e .answer ∙ ap (evaluation rule report) long)) h
+    (ap (λ (c : Bool). cond c (acceptedPrintout rule report) (refusedLine (r .number) (r .place))) (sym z)
+    ∙ ap (λ (x : Evaluation). cond (eqb (x .number) 0) (acceptedPrintout rule report) (refusedLine (x .number) (x .place))) is
+    ∙ sym (sound-by o (outcome-sound rule report room) (acceptedPrintout rule report) (refusedLine (numberOf o) (placeOf o)))) h
 
 -- ---- the bytes that are written
 
