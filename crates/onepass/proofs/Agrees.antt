@@ -144,7 +144,7 @@ module _ (rule : List ℕ) (m : ℕ) (accepted : ruleAnswer rule ≡ Accepted m)
       let f = call-taken es s t z .1 .1 in
       let few = entries-few rule in
       record {
-        good = written-good es s few (h .good) t f;
+        good = written-good es s few (h .good) (h .bytes) t f;
         bytes = written-bytes es s few (h .good) (h .bytes) t;
         state-is = written-state es s few (h .good) (h .bytes) t f ∙ rw (h .state-is, after-append es ts (t ∷ []) fresh);
         taken-are = taken-append es ts (t ∷ []) fresh .1 (h .taken-are, (sym (reached-number ts s h t) ∙ z, tt));

@@ -16,7 +16,8 @@ use Rattle.state.specs.Promises.{readable, parentIn, siblingIn, WordsRea
 use Rattle.state.specs.State.{stateSize, depthIn, elementsIn, rootIn, stateOf, bad, Good}
 use Rattle.state.specs.Stores.{startAfter, openedBytes, closedBytes}
 use Rattle.state.specs.declared.state.Words.{Words}
-use Rattle.state.proofs.StateLaws.{good-iff, parent-read, sibling-read}
+use Rattle.state.proofs.GoodLaws.{good-iff}
+use Rattle.state.proofs.StateLaws.{parent-read, sibling-read}
 use Rattle.numbers.proofs.BitLaws.{pred-sub}
 
 -- ---- when a tag is taken

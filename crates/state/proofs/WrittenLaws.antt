@@ -1,67 +1,35 @@
 -- The bytes after a tag that is taken are the state of the step table after it, pass the test again, and are bytes.
 -- Assumes nothing.
-use Prim.Native.Nat.{ℕ, pred, _+_, _^_, _≤_, _<_}
+use Prim.Native.Nat.{ℕ, pred, _^_, _≤_, _<_}
 use native.Mathlib.Nat.{lt-of-lt-of-le}
+use native.Mathlib.Numerals.{add-one}
 use native.Mathlib.Omega.{arith}
 use borrow.Author.Tests.{eqb-true}
-use mathlib.Core.Path.{_≡_, refl, sym, ap, _∙_}
+use mathlib.Core.Path.{_≡_, refl, sym, _∙_}
 use mathlib.Core.Bool.{Bool, true, false, cond}
 use mathlib.Core.List.{List}
-use lib.Dec.{ltb, eqb}
-use lib.ListN.{length}
+use lib.Dec.{eqb}
+use lib.ListN.{length, getD}
 use lib.Pow.{pow-mono}
 use Rattle.rules.specs.declared.rule.Entry.{Entry}
-use Rattle.terms.specs.Limits.{levelsMost}
+use Rattle.terms.specs.Limits.{elementsMost, levelsMost}
 use Rattle.reports.specs.Tags.{Tag, opens, closes}
 use Rattle.grammar.specs.Bytes.{Bytes}
 use Rattle.meaning.specs.OnePass.{State, fault, openedWord, opened, closed, after}
 use Rattle.meaning.proofs.StepTable.{step-small}
 use Rattle.state.specs.Bytes.{wordAt}
-use Rattle.state.specs.State.{depthIn, elementsIn, rootIn, openPlace, lastPlace, stateOf, Good}
-use Rattle.state.specs.Stores.{cleared, openedBytes, marked, rooted, closedBytes, written}
-use Rattle.state.proofs.ByteLaws.{word-small, put-length, put-bytes}
-use Rattle.state.proofs.StateLaws.{state-same, listed-at, opened-depth, opened-elements, opened-root, opened-spare, opened-open}
-use Rattle.state.proofs.StateLaws.{opened-last, opened-presence, closed-depth, closed-elements, closed-root, closed-spare, closed-last}
-use Rattle.state.proofs.StateLaws.{closed-open, closed-presence}
+use Rattle.state.specs.Layout.{countIn, placeFrom, widthIn}
+use Rattle.state.specs.State.{depthIn, elementsIn, rootIn, presenceIn, openPlace, layout, stateOf, Good}
+use Rattle.state.specs.Stores.{openingRun, openedBytes, rootAfter, closingRun, closedBytes, written}
 use Rattle.state.proofs.NumberLaws.{opens-room, closes-room}
+use Rattle.state.proofs.ListedLaws.{listed-at, listed-put}
+use Rattle.state.proofs.RunLaws.{told, Fits, run-length, run-bytes}
+use Rattle.state.proofs.StateLaws.{state-same, run-number, run-state, with-bit-listed, cleared-listed, opening-fits, closing-fits}
 use Rattle.numbers.specs.Bits.{wordBits}
 
 word-room : (es : List Entry) (st : State) (l : ℕ) → length es ≤ levelsMost → openedWord es st l < 2 ^ wordBits
 unfolding openedWord
 word-room es st l h = lt-of-lt-of-le (step-small es l _ _ (length es)) (pow-mono h)
-
-either-length : (b : Bool) (s t : List ℕ) (n : ℕ) → length s ≡ n → length t ≡ n → length (cond b s t) ≡ n
-either-length true s t n p q = p
-either-length false s t n p q = q
-
-either-bytes : (b : Bool) (s t : List ℕ) → Bytes s → Bytes t → Bytes (cond b s t)
-either-bytes true s t p q = p
-either-bytes false s t p q = q
-
--- Opening and closing keep the length, and that the bytes are bytes.
-opened-length : (d e w : ℕ) (s : List ℕ) → length (openedBytes d e w s) ≡ length s
-unfolding openedBytes cleared
-opened-length d e w s =
-    let a = put-length 8 (openPlace d) w s in
-    put-length 2 2 (e + 1) _ ∙ put-length 2 0 (d + 1) _ ∙ either-length (ltb d 63) _ _ (length s) (put-length 8 8 _ _ ∙ a) a
-
-closed-length : (d : ℕ) (s : List ℕ) → length (closedBytes d s) ≡ length s
-unfolding closedBytes rooted marked
-closed-length d s =
-    let a = put-length 2 0 d _ ∙ put-length 8 8 _ _ ∙ put-length 8 (lastPlace d) (wordAt 8 s (openPlace d)) s in
-    either-length (eqb d 0) _ _ (length s) (put-length 2 4 _ _ ∙ a) a
-
-opened-bytes : (d e w : ℕ) (s : List ℕ) → Bytes s → Bytes (openedBytes d e w s)
-unfolding openedBytes cleared
-opened-bytes d e w s b =
-    let a = put-bytes 8 (openPlace d) w s b in
-    put-bytes 2 2 (e + 1) _ (put-bytes 2 0 (d + 1) _ (either-bytes (ltb d 63) _ _ (put-bytes 8 8 _ _ a) a))
-
-closed-bytes : (d : ℕ) (s : List ℕ) → Bytes s → Bytes (closedBytes d s)
-unfolding closedBytes rooted marked
-closed-bytes d s b =
-    let a = put-bytes 2 0 d _ (put-bytes 8 8 _ _ (put-bytes 8 (lastPlace d) (wordAt 8 s (openPlace d)) s b)) in
-    either-bytes (eqb d 0) _ _ (put-bytes 2 4 _ _ a) a
 
 root-small : (b : Bool) (r : ℕ) → r ≤ 1 → cond b 1 r ≤ 1
 root-small true r l = omega arith
@@ -78,76 +46,100 @@ root-after : (b : Bool) (r : ℕ) → eqb (cond b 1 r) 1 ≡ cond b true (eqb r 
 root-after true r = refl
 root-after false r = refl
 
-module _ (es : List Entry) (s : List ℕ) (few : length es ≤ levelsMost) (good : Good s) where
-  -- The bytes after an opening that is taken are the opened state.
-  opened-state : (l : ℕ) → fault (stateOf s) (opens l) ≡ 0 → stateOf (written es s (opens l)) ≡ opened es (stateOf s) l
-  unfolding stateOf opened written
-  opened-state l z =
-      let r = opens-room s l z in
-      let w = openedWord es (stateOf s) l in
-      state-same (opened-depth (depthIn s) (elementsIn s) w s (good .long) (r .0) (r .1)) (opened-elements (depthIn s) (elementsIn s) w s (good .long) (r .0) (r .1))
-      (ap (λ (x : ℕ). eqb x 1) (opened-root (depthIn s) (elementsIn s) w s (good .long) (r .0) (r .1)))
-      (opened-presence (depthIn s) (elementsIn s) w s (good .long) (r .0) (r .1))
-      (opened-open (depthIn s) (elementsIn s) w s (good .long) (r .0) (r .1) (word-room es (stateOf s) l few))
-      (opened-last (depthIn s) (elementsIn s) w s (good .long) (r .0) (r .1))
+-- The two bytes that are zero stay so where the number that they are does.
+spare-kept : (s after : List ℕ) → wordAt 2 after 6 ≡ wordAt 2 s 6 → (getD s 6 0 ≡ 0) × (getD s 7 0 ≡ 0) → (getD after 6 0 ≡ 0) × (getD after 7 0 ≡ 0)
+unfolding wordAt
+spare-kept s after e z = (omega (arith, e, z .0, z .1), omega (arith, e, z .0, z .1))
 
-  -- The bytes after a closing that is taken are the closed state.
-  closed-state : Bytes s → fault (stateOf s) closes ≡ 0 → stateOf (written es s closes) ≡ closed (stateOf s)
-  unfolding stateOf closed written
-  closed-state bytes z =
-      let d = pred (depthIn s) in
-      let r = closes-room s z in
-      let h : d < levelsMost = omega (arith, good .shallow) in
-      state-same (closed-depth d s (good .long) h) (closed-elements d s (good .long) h)
-      (ap (λ (x : ℕ). eqb x 1) (closed-root d s (good .long) h) ∙ root-after (eqb d 0) (rootIn s))
-      (closed-presence d s (good .long) h) (closed-open d s (good .long) h)
-      (rw (listed-at levelsMost (λ i. wordAt 8 s (openPlace i)) d 0 h) (closed-last d s (good .long) h (word-small 8 s bytes (openPlace d))))
+module _ (es : List Entry) (s : List ℕ) (few : length es ≤ levelsMost) (good : Good s) (bytes : Bytes s) where
+  -- An opening that is taken: a level and an element are left, the root is open, and the word fits.
+  module _ (l : ℕ) (z : fault (stateOf s) (opens l) ≡ 0) where
+    abbrev w : ℕ
+    w = openedWord es (stateOf s) l
 
-  -- So the bytes after a tag that is taken are the state after it.
-  pub written-state : Bytes s → (t : Tag) → fault (stateOf s) t ≡ 0 → stateOf (written es s t) ≡ after es (stateOf s) t
+    room : (depthIn s < levelsMost) × (elementsIn s < elementsMost) × (rootIn s ≡ 1 → ⊥)
+    room = opens-room s l z
+
+    opening-fit : Fits layout (openingRun (depthIn s) (elementsIn s) w (presenceIn s))
+    opening-fit = opening-fits (depthIn s) s bytes (room .0) (elementsIn s) w (room .1) (word-room es (stateOf s) l few)
+
+    -- The bytes after an opening that is taken are the opened state.
+    opened-state : stateOf (written es s (opens l)) ≡ opened es (stateOf s) l
+    unfolding stateOf opened written openedBytes told
+    opened-state =
+        run-state _ s (good .long) opening-fit
+        ∙ state-same (add-one _) (add-one _) refl (cleared-listed (depthIn s) (presenceIn s)) (listed-put levelsMost _ (depthIn s) w (room .0)) refl
+
+    -- They pass the test again.
+    opened-good : Good (written es s (opens l))
+    unfolding written openedBytes countIn widthIn placeFrom told
+    opened-good =
+        let at = run-number _ s (good .long) opening-fit in
+        let d = at 0 0 (omega arith) in
+        let e = at 1 0 (omega arith) in
+        let f = at 2 0 (omega arith) in
+        record {
+          long = run-length layout _ s ∙ good .long;
+          shallow = omega (arith, d, room .0);
+          within = omega (arith, d, e, good .within);
+          few = omega (arith, e, room .1);
+          flag = omega (arith, f, good .flag);
+          shut = λ q. absurd (room .2 (sym f ∙ q));
+          spare = spare-kept s _ (at 3 0 (omega arith)) (good .spare);
+        }
+
+  -- A closing that is taken: an element is open, so that a depth below 64 is left.
+  module _ (z : fault (stateOf s) closes ≡ 0) where
+    some-open : 0 < depthIn s
+    some-open = closes-room s z
+
+    below : pred (depthIn s) < levelsMost
+    below = omega (arith, some-open, good .shallow)
+
+    closing-fit : Fits layout (closingRun (pred (depthIn s)) (wordAt 8 s (openPlace (pred (depthIn s)))) (presenceIn s) (rootIn s))
+    closing-fit = closing-fits (pred (depthIn s)) s bytes below
+
+    -- The bytes after a closing that is taken are the closed state.
+    closed-state : stateOf (written es s closes) ≡ closed (stateOf s)
+    unfolding stateOf closed written closedBytes rootAfter told
+    closed-state =
+        let d = pred (depthIn s) in
+        run-state _ s (good .long) closing-fit
+        ∙ state-same refl refl (root-after (eqb d 0) (rootIn s)) (with-bit-listed d (presenceIn s) true below) refl
+        (rw (listed-at levelsMost (λ i. wordAt 8 s (openPlace i)) d 0 below) (listed-put levelsMost _ d _ below))
+
+    -- They pass the test again.
+    closed-good : Good (written es s closes)
+    unfolding written closedBytes rootAfter countIn widthIn placeFrom told
+    closed-good =
+        let k = pred (depthIn s) in
+        let at = run-number _ s (good .long) closing-fit in
+        let d : depthIn (written es s closes) ≡ k = at 0 0 (omega arith) in
+        let e : elementsIn (written es s closes) ≡ elementsIn s = at 1 0 (omega arith) in
+        let f = at 2 0 (omega arith) in
+        record {
+          long = run-length layout _ s ∙ good .long;
+          shallow = omega (arith, d, below);
+          within = omega (arith, d, e, good .within);
+          few = omega (arith, e, good .few);
+          flag = rw f (root-small (eqb k 0) (rootIn s) (good .flag));
+          shut = λ q. rw d (root-shut k (rootIn s) (λ x. omega (arith, some-open, good .shut x)) (sym f ∙ q));
+          spare = spare-kept s _ (at 3 0 (omega arith)) (good .spare);
+        }
+
+  -- So the bytes after a tag that is taken are the state after it,
+  pub written-state : (t : Tag) → fault (stateOf s) t ≡ 0 → stateOf (written es s t) ≡ after es (stateOf s) t
   unfolding after
-  written-state bytes (opens l) z = opened-state l z
-  written-state bytes closes z = closed-state bytes z
+  written-state (opens l) z = opened-state l z
+  written-state closes z = closed-state z
 
-  -- They pass the test again.
+  -- pass the test again,
   pub written-good : (t : Tag) → fault (stateOf s) t ≡ 0 → Good (written es s t)
-  unfolding written
-  written-good (opens l) z =
-      let r = opens-room s l z in
-      let w = openedWord es (stateOf s) l in
-      let d = opened-depth (depthIn s) (elementsIn s) w s (good .long) (r .0) (r .1) in
-      let e = opened-elements (depthIn s) (elementsIn s) w s (good .long) (r .0) (r .1) in
-      let f = opened-root (depthIn s) (elementsIn s) w s (good .long) (r .0) (r .1) in
-      let spare = opened-spare (depthIn s) (elementsIn s) w s (good .long) (r .0) (r .1) in
-      record {
-        long = opened-length (depthIn s) (elementsIn s) w s ∙ good .long;
-        shallow = omega (arith, d, r .0);
-        within = omega (arith, d, e, good .within);
-        few = omega (arith, e, r .1);
-        flag = omega (arith, f, good .flag);
-        shut = λ q. absurd (r .2 (sym f ∙ q));
-        spare = (spare 6 (omega arith) (omega arith) ∙ good .spare .0, spare 7 (omega arith) (omega arith) ∙ good .spare .1);
-      }
-  written-good closes z =
-      let k = pred (depthIn s) in
-      let r = closes-room s z in
-      let h : k < levelsMost = omega (arith, good .shallow) in
-      let d = closed-depth k s (good .long) h in
-      let e = closed-elements k s (good .long) h in
-      let f = closed-root k s (good .long) h in
-      let spare = closed-spare k s (good .long) h in
-      record {
-        long = closed-length k s ∙ good .long;
-        shallow = omega (arith, d, h);
-        within = omega (arith, d, e, good .within);
-        few = omega (arith, e, good .few);
-        flag = rw f (root-small (eqb k 0) (rootIn s) (good .flag));
-        shut = λ q. rw d (root-shut k (rootIn s) (λ x. omega (arith, good .shut x)) (sym f ∙ q));
-        spare = (spare 6 (omega arith) (omega arith) ∙ good .spare .0, spare 7 (omega arith) (omega arith) ∙ good .spare .1);
-      }
+  written-good (opens l) z = opened-good l z
+  written-good closes z = closed-good z
 
-  -- They are bytes again.
-  pub written-bytes : Bytes s → (t : Tag) → Bytes (written es s t)
-  unfolding written
-  written-bytes bytes (opens l) = opened-bytes (depthIn s) (elementsIn s) (openedWord es (stateOf s) l) s bytes
-  written-bytes bytes closes = closed-bytes (pred (depthIn s)) s bytes
+  -- and are bytes again.
+  pub written-bytes : (t : Tag) → Bytes (written es s t)
+  unfolding written openedBytes closedBytes
+  written-bytes (opens l) = run-bytes layout _ s bytes
+  written-bytes closes = run-bytes layout _ s bytes

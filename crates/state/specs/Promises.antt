@@ -1,7 +1,7 @@
 -- What an opening reads of the state's bytes, and what start, an opening and a closing answer from them alone and leave in them.
 -- Document 01, "One pass".
 -- Shuts out: refuse everything; a refused call that writes; a word read past the last level.
--- Laws: proofs/TagLaws.antt, proofs/Only.antt. Assumes nothing.
+-- Laws: proofs/NumberLaws.antt, proofs/Only.antt. Assumes nothing.
 use Prim.Native.Nat.{ℕ, pred}
 use mathlib.Core.Path.{_≡_}
 use mathlib.Core.Bool.{Bool, cond, not, _&&_}

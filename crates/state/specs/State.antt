@@ -2,7 +2,7 @@
 -- closed (at 4), two bytes that are zero (at 6), and eight-byte words: presence (at 8), 64 open words (from 16), 64 last words (from
 -- 528). The low byte comes first everywhere.
 -- Shuts out: root closed read from one byte only; a depth or a count that is not tested.
--- Laws: proofs/StateLaws.antt. Assumes nothing.
+-- Laws: proofs/GoodLaws.antt, proofs/ListedLaws.antt, proofs/StateLaws.antt. Assumes nothing.
 use Prim.Native.Nat.{ℕ, zero, suc, _+_, _*_, _≤_}
 use mathlib.Core.Path.{_≡_}
 use mathlib.Core.Bool.{Bool, not, _&&_, _||_}
@@ -11,6 +11,7 @@ use lib.Dec.{eqb, ltb}
 use lib.ListN.{length, getD}
 use Rattle.meaning.specs.OnePass.{State}
 use Rattle.state.specs.Bytes.{wordAt}
+use Rattle.state.specs.Layout.{Group}
 use Rattle.terms.specs.Limits.{elementsMost, levelsMost}
 use Rattle.numbers.specs.Bits.{bitAt}
 
@@ -37,6 +38,12 @@ openPlace i = 16 + 8 * i
 
 abbrev pub lastPlace : ℕ → ℕ
 lastPlace i = 528 + 8 * i
+
+-- The same as a layout: depth, elements, root closed, the two bytes that are zero; the presence word; open words; last words.
+abbrev pub layout : List Group
+layout =
+    record { width = 2; count = 1 } ∷ record { width = 2; count = 1 } ∷ record { width = 2; count = 1 } ∷ record { width = 2; count = 1 }
+    ∷ record { width = 8; count = 1 } ∷ record { width = 8; count = levelsMost } ∷ record { width = 8; count = levelsMost } ∷ []
 
 -- The list of f's values at the numbers below n.
 module _ {A : Type 0} where

@@ -1,41 +1,62 @@
 -- What start, an opening and a closing write into the state's bytes. Document 01, "One pass".
 -- Shuts out: the presence bit not cleared on opening; closing that forgets root closed; start that leaves a byte.
--- Laws: proofs/StateLaws.antt, proofs/TagLaws.antt. Assumes nothing.
+-- Laws: proofs/StateLaws.antt, proofs/WrittenLaws.antt. Assumes nothing.
 use Prim.Native.Nat.{ℕ, pred, _+_}
 use mathlib.Core.Bool.{true, false, cond}
-use mathlib.Core.List.{List}
+use mathlib.Core.List.{List, [], _∷_}
 use lib.Dec.{eqb, ltb}
 use lib.ListN.{length, replicate}
 use Rattle.rules.specs.declared.rule.Entry.{Entry}
 use Rattle.reports.specs.Tags.{Tag, opens, closes}
 use Rattle.meaning.specs.OnePass.{openedWord}
-use Rattle.state.specs.Bytes.{wordAt, putAt, withBit}
-use Rattle.state.specs.State.{stateSize, depthIn, elementsIn, presenceIn, openPlace, lastPlace, stateOf}
+use Rattle.state.specs.Bytes.{wordAt, withBit}
+use Rattle.state.specs.Layout.{Store, stored}
+use Rattle.state.specs.State.{stateSize, depthIn, elementsIn, rootIn, presenceIn, openPlace, layout, stateOf}
 
 -- Start fills a state of the right length with zeros; any other stays as it was.
 unfoldable pub startAfter : List ℕ → List ℕ
 startAfter s = cond (eqb (length s) stateSize) (replicate stateSize 0) s
 
+-- A store into each of the state's numbers.
+abbrev pub toDepth : ℕ → Store
+toDepth v = record { group = 0; index = 0; value = v }
+
+abbrev pub toElements : ℕ → Store
+toElements v = record { group = 1; index = 0; value = v }
+
+abbrev pub toRoot : ℕ → Store
+toRoot v = record { group = 2; index = 0; value = v }
+
+abbrev pub toPresence : ℕ → Store
+toPresence v = record { group = 4; index = 0; value = v }
+
+abbrev pub toOpenWord : ℕ → ℕ → Store
+toOpenWord i v = record { group = 5; index = i; value = v }
+
+abbrev pub toLastWord : ℕ → ℕ → Store
+toLastWord i v = record { group = 6; index = i; value = v }
+
 -- Opening at depth d leaves no sibling on the level below: its presence bit goes, where there is such a level.
-unfoldable pub cleared : ℕ → List ℕ → List ℕ
-cleared d s = cond (ltb d 63) (putAt 8 8 (withBit (d + 1) false (presenceIn s)) s) s
+unfoldable pub clearedBelow : (d presence : ℕ) → ℕ
+clearedBelow d p = cond (ltb d 63) (withBit (d + 1) false p) p
 
--- Opening at depth d: the word goes into open word d, the presence bit below goes, and depth and elements rise by 1.
+-- Opening at depth d: the presence bit below goes, the word goes into open word d, and depth and elements rise by 1.
+abbrev pub openingRun : (d elements word presence : ℕ) → List Store
+openingRun d e w p = toPresence (clearedBelow d p) ∷ toOpenWord d w ∷ toDepth (d + 1) ∷ toElements (e + 1) ∷ []
+
 unfoldable pub openedBytes : (d elements word : ℕ) → List ℕ → List ℕ
-openedBytes d e w s = putAt 2 2 (e + 1) (putAt 2 0 (d + 1) (cleared d (putAt 8 (openPlace d) w s)))
-
--- Presence bit d is set.
-unfoldable pub marked : ℕ → List ℕ → List ℕ
-marked d s = putAt 8 8 (withBit d true (presenceIn s)) s
+openedBytes d e w s = stored layout (openingRun d e w (presenceIn s)) s
 
 -- The root is closed where nothing is open now.
-unfoldable pub rooted : ℕ → List ℕ → List ℕ
-rooted d s = cond (eqb d 0) (putAt 2 4 1 s) s
+unfoldable pub rootAfter : (d root : ℕ) → ℕ
+rootAfter d r = cond (eqb d 0) 1 r
 
--- Closing that leaves depth d: open word d becomes last word d, presence bit d is set, the depth is d, and with d 0 the root is
--- closed.
+-- Closing that leaves depth d: presence bit d is set, open word d becomes last word d, the depth is d, and with d 0 the root is closed.
+abbrev pub closingRun : (d word presence root : ℕ) → List Store
+closingRun d w p r = toPresence (withBit d true p) ∷ toLastWord d w ∷ toDepth d ∷ toRoot (rootAfter d r) ∷ []
+
 unfoldable pub closedBytes : ℕ → List ℕ → List ℕ
-closedBytes d s = rooted d (putAt 2 0 d (marked d (putAt 8 (lastPlace d) (wordAt 8 s (openPlace d)) s)))
+closedBytes d s = stored layout (closingRun d (wordAt 8 s (openPlace d)) (presenceIn s) (rootIn s)) s
 
 -- The bytes after an opening that is taken, of an element with this word, and after a closing that is taken.
 abbrev pub opening : (word : ℕ) → List ℕ → List ℕ

@@ -6,7 +6,7 @@ ghost use lib.Dec.{eqb};
 ghost use lib.ListN.{length, replicate};
 ghost use Rattle.state.specs.Bytes.{wordAt};
 ghost use Rattle.state.specs.State.{stateSize, presenceIn, openPlace, lastPlace, bad};
-ghost use Rattle.state.specs.Stores.{cleared, openedBytes, marked, rooted, closedBytes};
+ghost use Rattle.state.specs.Stores.{clearedBelow, openedBytes, rootAfter, closedBytes};
 ghost use Rattle.terms.specs.Limits.{elementsMost, levelsMost};
 use crate::bytes::number_at;
 use crate::bytes::put_number;
@@ -71,14 +71,14 @@ pub(crate) fn clear(state: &mut [u8])
     }
 }
 
-// Clears presence bit d + 1, if there is one.
-fn clear_presence(s: &mut [u8], d: usize)
-    requires { ⌜ length (now s) ≡ stateSize ⌝ }
-    ensures { λ _. ⌜ now (s .exit) ≡ cleared d (now (s .entry)) ⌝ }
+// The presence word after opening at depth d: bit d + 1 is cleared, if there is one.
+fn cleared_below(presence: u64, d: usize) -> u64
+    ensures { λ r. ⌜ r ≡ clearedBelow d presence ⌝ }
 {
     if d < 63 {
-        let presence = word_at(s, 8);
-        put_word(s, 8, with_bit(presence, d + 1, false));
+        with_bit(presence, d + 1, false)
+    } else {
+        presence
     }
 }
 
@@ -87,29 +87,18 @@ pub(crate) fn store_opening(s: &mut [u8], d: usize, elements: usize, w: u64)
     requires { ⌜ (length (now s) ≡ stateSize) × (d < levelsMost) × (elements < elementsMost) ⌝ }
     ensures { λ _. ⌜ now (s .exit) ≡ openedBytes d elements w (now (s .entry)) ⌝ }
 {
+    let presence = word_at(s, 8);
+    put_word(s, 8, cleared_below(presence, d));
     put_word(s, 16 + 8 * d, w);
-    clear_presence(s, d);
     put_number(s, 0, d + 1);
     put_number(s, 2, elements + 1);
 }
 
-// Sets presence bit d.
-fn mark_presence(s: &mut [u8], d: usize)
-    requires { ⌜ (length (now s) ≡ stateSize) × (d < levelsMost) ⌝ }
-    ensures { λ _. ⌜ now (s .exit) ≡ marked d (now (s .entry)) ⌝ }
+// Root closed after a closing that leaves depth d: set, if nothing is open.
+fn root_after(root: usize, d: usize) -> usize
+    ensures { λ r. ⌜ r ≡ rootAfter d root ⌝ }
 {
-    let presence = word_at(s, 8);
-    put_word(s, 8, with_bit(presence, d, true));
-}
-
-// Sets root closed, if nothing is open.
-fn close_root(s: &mut [u8], d: usize)
-    requires { ⌜ length (now s) ≡ stateSize ⌝ }
-    ensures { λ _. ⌜ now (s .exit) ≡ rooted d (now (s .entry)) ⌝ }
-{
-    if d == 0 {
-        put_number(s, 4, 1);
-    }
+    if d == 0 { 1 } else { root }
 }
 
 // Stores what closing writes that leaves depth d.
@@ -118,8 +107,10 @@ pub(crate) fn store_closing(s: &mut [u8], d: usize)
     ensures { λ _. ⌜ now (s .exit) ≡ closedBytes d (now (s .entry)) ⌝ }
 {
     let w = word_at(s, 16 + 8 * d);
+    let presence = word_at(s, 8);
+    let root = number_at(s, 4);
+    put_word(s, 8, with_bit(presence, d, true));
     put_word(s, 528 + 8 * d, w);
-    mark_presence(s, d);
     put_number(s, 0, d);
-    close_root(s, d);
+    put_number(s, 4, root_after(root, d));
 }

@@ -1,0 +1,22 @@
+use borrow.Author.Tests.{lt-ltb, le-ltb}
+use Rattle.state.specs.Stores.{clearedBelow}
+use borrow.Author.Needs.{needs}
+use Rattle.state.proofs.fields.cleared_below.Statement.{statement}
+use Rattle.state.proofs.fields.cleared_below.Tie as tie
+
+add-with-bit : tie.Need-add-with-bit
+add-with-bit c = search needs
+
+with-bit-requires : tie.Need-with-bit-requires
+with-bit-requires c κs = search needs
+
+returns : tie.Need-returns
+unfolding clearedBelow
+returns c = rw (c .with-bit .ensures, lt-ltb _ _ (c .before .if1 .taken))
+
+returns-2 : tie.Need-returns-2
+unfolding clearedBelow
+returns-2 c = rw (le-ltb _ _ (c .if1 .left))
+
+pub cleared-below-spec : {M : Type 1} → statement M
+cleared-below-spec = tie.close (tie.spec add-with-bit with-bit-requires returns returns-2)
