@@ -11,7 +11,7 @@ use Rattle.rules.specs.Rule.{ruleAnswer}
 use Rattle.reports.specs.Tags.{opens, labels, openedCount}
 use Rattle.terms.specs.declared.answer.Answer.the-variants.{Accepted}
 use Rattle.reports.proofs.TagLaws.{opened-append}
-use Rattle.grammar.specs.Bytes.{Bytes}
+use Rattle.numbers.specs.Bytes.{Bytes}
 use Rattle.grammar.proofs.Elements.{labels-accepted, elements-count, levels-elements}
 use Rattle.meaning.specs.OnePass.{LooksBack}
 use Rattle.marking.specs.Evaluation.{Evaluated}

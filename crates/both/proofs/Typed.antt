@@ -12,7 +12,7 @@ use lib.Seq.{take-append-seam}
 use Rattle.reports.specs.Report.{reportAnswer, tagsOf as tagsIn}
 use Rattle.reports.specs.Tags.{opens, openedCount}
 use Rattle.terms.specs.declared.answer.Answer.the-variants.{Accepted}
-use Rattle.grammar.specs.Bytes.{Bytes}
+use Rattle.numbers.specs.Bytes.{Bytes}
 use Rattle.meaning.specs.Marks.{wordOf}
 use Rattle.meaning.specs.OnePass.{LooksBack}
 use Rattle.meaning.proofs.Reflect.{word-iff}

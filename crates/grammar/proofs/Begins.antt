@@ -11,7 +11,7 @@ use Rattle.terms.specs.Limits.{labelMost}
 use Rattle.reports.specs.Report.{tagsOf, reportAnswer}
 use Rattle.reports.specs.Tags.{Tag, opens, closes, depthFrom, depth, labels, openedCount}
 use Rattle.reports.proofs.TagLaws.{depth-append}
-use Rattle.grammar.specs.Bytes.{Bytes, twoBytes}
+use Rattle.numbers.specs.Bytes.{Bytes, twoBytes}
 use Rattle.grammar.specs.Legal.{Fit, Legal}
 use Rattle.grammar.specs.Reports.{sizeT, tagBytes, bytesOf}
 use Rattle.grammar.proofs.Fits.{fit-append}

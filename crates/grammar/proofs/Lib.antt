@@ -1,5 +1,4 @@
 -- The laws of what the readers accept and refuse. Read in this order.
-pub mod Bytes
 pub mod Chain
 pub mod Frame
 pub mod Decides

@@ -12,16 +12,16 @@ use mathlib.Core.List.{List, [], _∷_, _++_, append-assoc, append-nil}
 use mathlib.Core.Logic.{_↔_, ⊎-elim}
 use lib.ListN.{length, drop, length-append}
 use lib.Seq.{drop-length}
-use Rattle.numbers.specs.Bytes.{numberAt}
+use Rattle.numbers.specs.Bytes.{wordAt, numberAt}
 use Rattle.terms.specs.Frame.{kindAt, nextOf, startOf}
 use Rattle.reports.specs.Tags.{Tag, opens, closes, openedCount}
 use Rattle.reports.specs.Report.{reportLength, tagAt, tagsBefore, reportFault, reportAnswer, tagsOf}
 use Rattle.terms.specs.declared.answer.Answer.the-variants.{Accepted}
-use Rattle.grammar.specs.Bytes.{twoBytes, Bytes}
+use Rattle.numbers.specs.Bytes.{twoBytes, Bytes}
 use Rattle.grammar.specs.Legal.{Fit, Legal}
 use Rattle.grammar.specs.Reports.{Tree, tagBytes, bytesOf, tagsT, sizeT, Within}
 use Rattle.grammar.specs.When.{Faulty, Ended}
-use Rattle.grammar.proofs.Bytes.{number-back, number-shift, bytes-split}
+use Rattle.numbers.proofs.TwoBytes.{number-back, number-shift, bytes-split}
 use Rattle.numbers.proofs.Tells.{IsTest, holds, fails, eqb-tests}
 use Rattle.grammar.proofs.Frame.{Sound, sound-unfaulty, unfaulty-sound, start-strict}
 use Rattle.grammar.proofs.Fits.{fit-snoc}
@@ -32,17 +32,17 @@ use Rattle.numbers.specs.Lists.{listed}
 -- ---- reading where a tag was written
 
 tag-back : (t : Tag) (ys : List ℕ) → tagAt (tagBytes t ++ ys) 0 ≡ t
-unfolding tagAt tagBytes twoBytes numberAt
+unfolding tagAt tagBytes twoBytes wordAt
 tag-back (opens l) ys = ap opens (number-back l ys)
 tag-back closes ys = refl
 
 next-back : (t : Tag) (ys : List ℕ) → nextOf (tagBytes t ++ ys) 0 ≡ length (tagBytes t)
-unfolding nextOf tagBytes twoBytes numberAt
+unfolding nextOf tagBytes twoBytes wordAt
 next-back (opens l) ys = refl
 next-back closes ys = refl
 
 sound-back : (t : Tag) (ys : List ℕ) → Sound reportLength (tagBytes t ++ ys) 0
-unfolding tagBytes twoBytes numberAt reportLength
+unfolding tagBytes twoBytes wordAt reportLength
 sound-back (opens l) ys = record { left = omega arith; known = λ e. omega arith; right = refl; fits = omega arith }
 sound-back closes ys = record { left = omega arith; known = λ e. omega arith; right = refl; fits = omega arith }
 

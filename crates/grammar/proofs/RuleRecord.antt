@@ -13,10 +13,10 @@ use Rattle.terms.specs.Frame.{kindAt}
 use Rattle.terms.specs.Kinds.{rowOf, ruleLength}
 use Rattle.rules.specs.Rule.{entryOf, entryAt}
 use Rattle.rules.specs.declared.rule.Entry.{Entry}
-use Rattle.grammar.specs.Bytes.{twoBytes, Bytes}
+use Rattle.numbers.specs.Bytes.{twoBytes, Bytes}
 use Rattle.grammar.specs.Rules.{bodyOf, recordOf, WellFormed}
 use Rattle.grammar.specs.When.{Misdirected}
-use Rattle.grammar.proofs.Bytes.{number-back, number-after, number-shift, number-at, bytes-back, bytes-more}
+use Rattle.numbers.proofs.TwoBytes.{number-back, number-after, number-shift, number-at, bytes-back, bytes-more}
 use Rattle.grammar.proofs.Frame.{Sound}
 use Rattle.terms.proofs.Rows.{row-measured}
 

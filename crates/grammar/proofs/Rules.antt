@@ -15,7 +15,7 @@ use Rattle.rules.specs.Rule.{entryAt, ruleFault, ruleAnswer, ruleFaults}
 use Rattle.terms.specs.declared.answer.Answer.the-variants.{Accepted}
 use Rattle.rules.specs.declared.rule.Entry.{Entry}
 use Rattle.terms.specs.Kinds.{ruleLength}
-use Rattle.grammar.specs.Bytes.{Bytes}
+use Rattle.numbers.specs.Bytes.{Bytes}
 use Rattle.grammar.specs.Rules.{noEntry, recordOf, ruleBytes, WellFormed, RuleEntries}
 use Rattle.grammar.specs.When.{bad-a}
 use Rattle.grammar.proofs.Entries.{before-at, entries-count, rule-entries}

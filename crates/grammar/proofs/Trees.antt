@@ -10,7 +10,7 @@ use lib.Seq.{getD-append-add}
 use Rattle.reports.specs.Tags.{Tag, opens, closes, depthFrom, labels, openedCount}
 use Rattle.grammar.specs.Reports.{Tree, node, Forest, empty, _before_, tagsT, tagsF, sizeT, sizeF, heightT, heightF}
 use Rattle.grammar.specs.Reports.{Labelled, Within, bytesOf, tagBytes}
-use Rattle.grammar.specs.Bytes.{twoBytes}
+use Rattle.numbers.specs.Bytes.{twoBytes}
 use Rattle.grammar.specs.Legal.{Fit, Legal}
 use Rattle.reports.proofs.TagLaws.{depth-append, labels-append, opened-append}
 use Rattle.grammar.proofs.TagRows.{OpensWell, opens-well-iff, closes-well-iff}

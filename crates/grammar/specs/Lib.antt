@@ -1,5 +1,4 @@
 -- What the readers accept and refuse, without a cursor. Read in this order.
-pub mod Bytes
 pub mod When
 pub mod Rules
 pub mod Columns

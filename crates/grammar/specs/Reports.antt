@@ -5,7 +5,7 @@ use Prim.Native.Nat.{ℕ, suc, _+_, _≤_, _<_, max}
 use mathlib.Core.List.{List, [], _∷_, _++_}
 use lib.ListN.{length, getD}
 use Rattle.reports.specs.Tags.{Tag, opens, closes, labels}
-use Rattle.grammar.specs.Bytes.{twoBytes}
+use Rattle.numbers.specs.Bytes.{twoBytes}
 use Rattle.terms.specs.Limits.{labelMost, elementsMost, levelsMost}
 
 -- The bytes of a tag's record, and of a sequence of tags.

@@ -8,7 +8,7 @@ use lib.Dec.{leb}
 use lib.ListN.{length, getD}
 use Rattle.terms.specs.Kinds.{rowOf}
 use Rattle.rules.specs.declared.rule.Entry.{Entry}
-use Rattle.grammar.specs.Bytes.{twoBytes}
+use Rattle.numbers.specs.Bytes.{twoBytes}
 use Rattle.grammar.specs.When.{Misdirected}
 use Rattle.terms.specs.Limits.{entriesMost}
 

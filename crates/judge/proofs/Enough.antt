@@ -9,7 +9,7 @@ use mathlib.Core.List.{List, _++_}
 use mathlib.Core.Logic.{inr}
 use lib.ListN.{length, getD, take, drop, length-drop, length-append, List·getD-append}
 use lib.Seq.{length-take-le, take-append-le, drop-append-le}
-use Rattle.numbers.specs.Bytes.{numberAt}
+use Rattle.numbers.specs.Bytes.{wordAt, numberAt}
 use Rattle.rules.specs.Rule.{ruleAnswer}
 use Rattle.reports.specs.Report.{reportAnswer}
 use Rattle.terms.specs.Answer.{inOrder}
@@ -76,7 +76,7 @@ module _ (s : List ℕ) (h : 2 ≤ length s) where
 
 -- The printout of the first 65,536 bytes is the printout of the whole input.
 pub read-enough : (s rest : List ℕ) → length s ≡ 65536 → printoutOf s ≡ printoutOf (s ++ rest)
-unfolding ruleEnd numberAt ruleIn reportIn
+unfolding ruleEnd wordAt ruleIn reportIn
 read-enough s rest n =
     elim (decLt 514 (ruleEnd s)) [
       | yes l ↦ printout-long-rule s (omega arith) l ∙ sym (printout-long-rule (s ++ rest) two (omega (arith, ends)))
@@ -91,8 +91,8 @@ read-enough s rest n =
 
     ends : ruleEnd (s ++ rest) ≡ ruleEnd s
     ends =
-        ap (λ (x : ℕ). 2 + (x + 256 * getD (s ++ rest) 1 0)) (List·getD-append s rest 0 0 (omega arith))
-        ∙ ap (λ (x : ℕ). 2 + (getD s 0 0 + 256 * x)) (List·getD-append s rest 0 1 (omega arith))
+        ap (λ (x : ℕ). 2 + (x + 256 * (getD (s ++ rest) 1 0 + 0))) (List·getD-append s rest 0 0 (omega arith))
+        ∙ ap (λ (x : ℕ). 2 + (getD s 0 0 + 256 * (x + 0))) (List·getD-append s rest 0 1 (omega arith))
 
     rules : ruleEnd s ≤ 514 → ruleIn (s ++ rest) (ruleEnd s) ≡ ruleIn s (ruleEnd s)
     rules k =

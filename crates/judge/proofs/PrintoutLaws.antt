@@ -28,12 +28,12 @@ use Rattle.marking.specs.declared.report.Marking.{Marking}
 use Rattle.marking.proofs.AnswerLaws.{marked-evaluated, outcome-sound, both-taken}
 use Rattle.marking.proofs.Means.{counted, word-is}
 use Rattle.text.specs.Text.{lineOf, elementLines, acceptedLines, acceptedText, headerLine, closingLine, refusedLine}
-use Rattle.text.specs.Rendered.{verdictIn, clamped, tableText, putAt, Rendered}
+use Rattle.text.specs.Rendered.{verdictIn, clamped, tableText, Rendered}
 use Rattle.judge.specs.Output.{room, acceptedPrintout, printoutOfBoth}
 use Rattle.terms.specs.Limits.{elementsMost}
 use Rattle.rules.specs.Entries.{entriesOf}
 use Rattle.reports.specs.Elements.{labelsOf, levelsOf}
-use Rattle.numbers.specs.Lists.{listed, over}
+use Rattle.numbers.specs.Lists.{listed, over, putAt}
 use Rattle.numbers.proofs.Lists.{over-at}
 use Rattle.reports.proofs.ElementLaws.{taken-lists}
 use Rattle.numbers.proofs.BitLaws.{pred-sub}

@@ -3,6 +3,7 @@ ghost use mathlib.Core.Path.{_≡_};
 ghost use Prim.Native.Nat.{_<_};
 ghost use lib.ListN.{length};
 ghost use Rattle.judge.specs.Input.{ruleEnd, splitOf};
+use numbers::bytes::number_at;
 
 // Whether the input has a rule of the length that it says, and where that rule ends.
 pub struct Halves {
@@ -10,18 +11,12 @@ pub struct Halves {
     pub end: usize,
 }
 
-fn byte(x: u8) -> usize
-    ensures { λ r. ⌜ (r ≡ x) × (r < 256) ⌝ }
-{
-    x as usize
-}
-
 // Where the rule ends, by the length that the first two bytes say.
 fn rule_end(input: &[u8]) -> usize
     requires { ⌜ 1 < length (now input) ⌝ }
     ensures { λ r. ⌜ r ≡ ruleEnd (now (input .entry)) ⌝ }
 {
-    2 + (byte(input[0]) + 256 * byte(input[1]))
+    2 + number_at(input, 0)
 }
 
 // Reads the rule's length, and sees whether so many bytes follow.

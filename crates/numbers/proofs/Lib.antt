@@ -2,5 +2,8 @@
 pub mod First
 pub mod Tells
 pub mod Lists
+pub mod ByteLaws
+pub mod TwoBytes
 pub mod BitLaws
+pub mod WithBit
 pub mod Only

@@ -7,9 +7,13 @@ use native.Mathlib.Numerals.{add-one}
 use mathlib.Core.Path.{_≡_, refl, sym, ap, _∙_}
 use mathlib.Core.List.{List, [], _∷_, _++_}
 use mathlib.Core.Logic.{⊎-elim}
-use lib.ListN.{length, getD, set, drop, length-append, List·getD-append}
-use lib.Seq.{sets, length-sets, sets-eq, getD-append-add, getD-drop, getD-at, ext-getD}
-use Rattle.numbers.specs.Lists.{listed, over}
+use lib.ListN.{length, getD, set, drop, length-append, List·getD-append, replicate, length-set, length-replicate, getD-replicate}
+use lib.Seq.{sets, length-sets, sets-eq, getD-append-add, getD-drop, getD-at, ext-getD, getD-set-same, getD-set-other}
+use Rattle.numbers.specs.Lists.{listed, putAt, over}
+use native.Mathlib.Decide.{ℕ-discrete}
+use borrow.Author.Tests.{eq-eqb, ne-eqb}
+use mathlib.Core.Bool.{cond}
+use lib.Dec.{eqb}
 
 -- ---- the values below a number
 
@@ -34,11 +38,36 @@ module _ {A : Type 0} where
   listed-only n f xs d e h =
       ext-getD d _ xs (listed-length n f ∙ sym e) (λ i l. let m : i < n = omega (arith, listed-length n f) in listed-at n f i d m ∙ h i m)
 
+  -- Equal values, equal lists.
+  pub listed-same : (n : ℕ) (f g : ℕ → A) → ((i : ℕ) → i < n → f i ≡ g i) → listed n f ≡ listed n g
+  unfolding listed
+  listed-same zero f g h = refl
+  listed-same (suc n) f g h = rw (listed-same n f g (λ i l. h i (omega arith)), h n (omega arith))
+
+  -- One value all along.
+  pub listed-all : (n : ℕ) (f : ℕ → A) (v : A) → ((i : ℕ) → f i ≡ v) → listed n f ≡ replicate n v
+  listed-all n f v h =
+      listed-only n f (replicate n v) v (length-replicate n v) (λ i l. h i ∙ sym (getD-replicate n i v v l))
+
+  -- One value changed.
+  pub listed-set : (n : ℕ) (f g : ℕ → A) (k : ℕ) (v : A) → k < n → g k ≡ v → ((i : ℕ) → i < n → (i ≡ k → ⊥) → g i ≡ f i)
+      → listed n g ≡ set (listed n f) k v
+  listed-set n f g k v l e h =
+      listed-only n g (set (listed n f) k v) v (length-set (listed n f) k v ∙ listed-length n f) (λ i m. at i m (ℕ-discrete i k))
+    where
+      at : (i : ℕ) → i < n → Dec (i ≡ k) → g i ≡ getD (set (listed n f) k v) i v
+      at i m (yes q) = rw q (e ∙ sym (getD-set-same (listed n f) k v v (omega (arith, listed-length n f))))
+      at i m (no q) = h i m q ∙ sym (getD-set-other (listed n f) k i v v q ∙ listed-at n f i v m)
+
+  -- Put by a test.
+  pub listed-put : (n : ℕ) (f : ℕ → A) (k : ℕ) (v : A) → k < n → listed n (λ i. cond (eqb k i) v (f i)) ≡ set (listed n f) k v
+  listed-put n f k v l = listed-set n f _ k v l (rw (eq-eqb k k refl)) (λ i m q. rw (ne-eqb k i (λ e. q (sym e))))
+
 -- ---- values stored in a lent list
 
 -- No value: the list as it was.
 pub over-none : (lent : List ℕ) → over [] lent ≡ lent
-unfolding over
+unfolding putAt
 over-none lent = refl
 
 -- One value more, stored behind the others.
@@ -49,17 +78,17 @@ sets-next (v ∷ vs) lent k x =
     ap (λ (i : ℕ). set (sets (set lent k v) (suc k) vs) i x) e ∙ sets-next vs (set lent k v) (suc k) x
 
 pub over-next : (xs lent : List ℕ) (x i : ℕ) → length xs ≡ i → set (over xs lent) i x ≡ over (xs ++ (x ∷ [])) lent
-unfolding over
+unfolding putAt
 over-next xs lent x i e = ap (λ (k : ℕ). set (sets lent 0 xs) k x) (sym e ∙ sym (zero-add (length xs))) ∙ sets-next xs lent 0 x
 
 -- The list keeps its length.
 pub over-length : (xs lent : List ℕ) → length (over xs lent) ≡ length lent
-unfolding over
+unfolding putAt
 over-length xs lent = length-sets lent 0 xs
 
 -- Where there is room, the first places hold the values, and those past them what they held.
 pub over-is : (xs lent : List ℕ) → length xs ≤ length lent → over xs lent ≡ xs ++ drop (length xs) lent
-unfolding over
+unfolding putAt
 over-is xs lent h =
     sets-eq xs lent 0 (omega arith) ∙ ap (λ (k : ℕ). xs ++ drop k lent) (zero-add (length xs))
 

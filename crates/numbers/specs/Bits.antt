@@ -1,7 +1,7 @@
 -- Bits of a word, and the word of some bits. Document 01, "Numbers given back": a mark word has 64 bits, bit i for entry i.
--- Laws: proofs/BitLaws.antt. Assumes nothing.
+-- Laws: proofs/BitLaws.antt, proofs/WithBit.antt. Assumes nothing.
 use Prim.Native.Nat.{ℕ, zero, suc, _+_, _*_, _^_, _%_, _/_}
-use mathlib.Core.Bool.{Bool, true, false}
+use mathlib.Core.Bool.{Bool, true, false, cond}
 use lib.Dec.{eqb}
 
 -- A mark word has so many bits, one for each entry that a rule may have.
@@ -21,3 +21,7 @@ word (suc m) f = bit (f m) * 2 ^ m + word m f
 -- Bit a of a word.
 abbrev pub bitAt : ℕ → ℕ → Bool
 bitAt w a = eqb (w / 2 ^ a % 2) 1
+
+-- The 64-bit word w with bit i put to `on`; every other bit stays.
+unfoldable pub withBit : ℕ → Bool → ℕ → ℕ
+withBit i on w = word wordBits (λ j. cond (eqb j i) on (bitAt w j))

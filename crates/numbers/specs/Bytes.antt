@@ -1,9 +1,27 @@
--- Numbers in two bytes, the low byte first. Document 01, "Records".
--- Assumes nothing.
-use Prim.Native.Nat.{ℕ, _+_, _*_}
-use mathlib.Core.List.{List}
-use lib.ListN.{getD}
+-- Numbers in a byte string, of any width, the low byte first. Document 01, "Records" (two bytes) and "One pass" (two and eight).
+-- Laws: proofs/ByteLaws.antt, proofs/TwoBytes.antt. Assumes nothing.
+use Prim.Native.Nat.{ℕ, zero, suc, _+_, _*_, _/_, _%_, _<_}
+use mathlib.Core.List.{List, [], _∷_}
+use lib.ListN.{getD, set}
 
--- The number whose two bytes stand at an offset.
-unfoldable pub numberAt : List ℕ → ℕ → ℕ
-numberAt s at = getD s at 0 + 256 * getD s (at + 1) 0
+-- The list is a byte string: every number in it is below 256.
+abbrev pub Bytes : List ℕ → Type 0
+Bytes s = (i : ℕ) → getD s i 0 < 256
+
+-- The number whose k bytes stand at an offset.
+unfoldable pub wordAt : ℕ → List ℕ → ℕ → ℕ
+wordAt zero s at = 0
+wordAt (suc k) s at = getD s at 0 + 256 * wordAt k s (at + 1)
+
+-- The number whose two bytes stand at an offset, as in every record.
+abbrev pub numberAt : List ℕ → ℕ → ℕ
+numberAt s at = wordAt 2 s at
+
+-- The byte string with the k low bytes of a value stored at an offset; every other byte stays.
+unfoldable pub numberPut : (k at value : ℕ) → List ℕ → List ℕ
+numberPut zero at v s = s
+numberPut (suc k) at v s = numberPut k (at + 1) (v / 256) (set s at (v % 256))
+
+-- The two bytes of a number below 65,536.
+unfoldable pub twoBytes : ℕ → List ℕ
+twoBytes n = n % 256 ∷ n / 256 ∷ []

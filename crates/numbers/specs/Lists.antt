@@ -10,6 +10,10 @@ module _ {A : Type 0} where
   listed zero f = []
   listed (suc n) f = listed n f ++ (f n ∷ [])
 
--- A lent list with the values xs stored in its first places, one after the other; the places past them keep their contents.
-unfoldable pub over : List ℕ → List ℕ → List ℕ
-over xs lent = sets lent 0 xs
+-- A lent list with the values xs stored from an offset on, one after the other; every other place keeps its contents.
+unfoldable pub putAt : List ℕ → ℕ → List ℕ → List ℕ
+putAt lent at xs = sets lent at xs
+
+-- Stored in its first places.
+abbrev pub over : List ℕ → List ℕ → List ℕ
+over xs lent = putAt lent 0 xs

@@ -17,7 +17,7 @@ use Rattle.rules.specs.declared.rule.Entry.{Entry}
 use Rattle.reports.specs.Report.{reportAnswer, tagsOf as tagsIn}
 use Rattle.rules.specs.Rule.{ruleAnswer}
 use Rattle.reports.specs.Tags.{Tag, opens, closes, openedCount}
-use Rattle.grammar.specs.Bytes.{Bytes}
+use Rattle.numbers.specs.Bytes.{Bytes}
 use Rattle.grammar.proofs.Elements.{accepted-legal, levels-accepted, labels-accepted}
 use Rattle.grammar.specs.Reports.{bytesOf}
 use Rattle.grammar.proofs.Begins.{report-bytes, report-begins, fit-goes-on}

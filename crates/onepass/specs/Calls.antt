@@ -8,7 +8,7 @@ use lib.Dec.{eqb}
 use Rattle.reports.specs.Report.{reportAnswer}
 use Rattle.reports.specs.Tags.{Tag, opens, closes}
 use Rattle.terms.specs.declared.answer.Answer.the-variants.{Accepted}
-use Rattle.grammar.specs.Bytes.{Bytes}
+use Rattle.numbers.specs.Bytes.{Bytes}
 use Rattle.grammar.specs.Reports.{bytesOf}
 use Rattle.onepass.specs.Step.{Opened, Closed}
 use Rattle.onepass.specs.declared.export.StepReply.{StepReply}

@@ -1,9 +1,6 @@
 -- The laws of the state's bytes. Read in this order.
-pub mod ByteLaws
 pub mod RunLaws
-pub mod BitLaws
 pub mod GoodLaws
-pub mod ListedLaws
 pub mod StateLaws
 pub mod NumberLaws
 pub mod WrittenLaws

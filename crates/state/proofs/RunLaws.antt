@@ -11,10 +11,9 @@ use mathlib.Core.List.{List, [], _∷_}
 use mathlib.Core.Logic.{_⊎_, inl, inr}
 use lib.Dec.{eqb}
 use lib.ListN.{length}
-use Rattle.grammar.specs.Bytes.{Bytes}
-use Rattle.state.specs.Bytes.{putAt}
+use Rattle.numbers.specs.Bytes.{Bytes, numberPut}
 use Rattle.state.specs.Layout.{Group, widthIn, countIn, placeFrom, placeIn, sizeIn, Store, numberIn, stored}
-use Rattle.state.proofs.ByteLaws.{put-length, put-bytes, word-other, word-put}
+use Rattle.numbers.proofs.ByteLaws.{put-length, put-bytes, word-other, word-put}
 
 -- ---- two numbers of a layout
 
@@ -82,15 +81,15 @@ module _ (l : List Group) where
 
   -- One store.
   read-one : (g i h j v : ℕ) (s : List ℕ) → i < countIn l g → j < countIn l h → v < 256 ^ widthIn l h → sizeIn l ≤ length s
-      → numberIn l g i (putAt (widthIn l h) (placeIn l h j) v s) ≡ cond (eqb h g && eqb j i) v (numberIn l g i s)
+      → numberIn l g i (numberPut (widthIn l h) (placeIn l h j) v s) ≡ cond (eqb h g && eqb j i) v (numberIn l g i s)
   read-one g i h j v s a b small room = go (ℕ-discrete h g) (ℕ-discrete j i) where
-    other : (h ≡ g → j ≡ i → ⊥) → numberIn l g i (putAt (widthIn l h) (placeIn l h j) v s) ≡ numberIn l g i s
+    other : (h ≡ g → j ≡ i → ⊥) → numberIn l g i (numberPut (widthIn l h) (placeIn l h j) v s) ≡ numberIn l g i s
     other n = word-other (widthIn l g) (placeIn l g i) (widthIn l h) (placeIn l h j) v s (shared (places-apart 0 l h j g i b a n)) where
       shared : Apart 0 l h j g i → (k : ℕ) → placeIn l g i ≤ k → k < placeIn l g i + widthIn l g → placeIn l h j ≤ k → k < placeIn l h j + widthIn l h → ⊥
       shared (inl p) k q r t u = omega arith
       shared (inr p) k q r t u = omega arith
 
-    go : Dec (h ≡ g) → Dec (j ≡ i) → numberIn l g i (putAt (widthIn l h) (placeIn l h j) v s) ≡ cond (eqb h g && eqb j i) v (numberIn l g i s)
+    go : Dec (h ≡ g) → Dec (j ≡ i) → numberIn l g i (numberPut (widthIn l h) (placeIn l h j) v s) ≡ cond (eqb h g && eqb j i) v (numberIn l g i s)
     go (yes p) (yes q) =
         rw (p, q, eq-eqb g g refl, eq-eqb i i refl) (word-put (widthIn l g) (placeIn l g i) v s (omega (arith, place-inside 0 l g i a)) (rw p at small))
     go (yes p) (no q) = rw (eq-eqb h g p, ne-eqb j i q) (other (λ x. q))

@@ -12,17 +12,17 @@ use lib.Dec.{eqb, ltb}
 use lib.ListN.{length, getD, set, replicate, length-replicate}
 use Rattle.rules.specs.declared.rule.Entry.{Entry}
 use Rattle.terms.specs.Limits.{elementsMost, levelsMost}
-use Rattle.grammar.specs.Bytes.{Bytes}
+use Rattle.numbers.specs.Bytes.{Bytes, wordAt}
 use Rattle.meaning.specs.OnePass.{State, fresh, parentWord, siblingWord}
-use Rattle.state.specs.Bytes.{wordAt, withBit}
 use Rattle.state.specs.Layout.{countIn, placeFrom, widthIn, sizeIn, Store, numberIn, stored}
-use Rattle.state.specs.State.{stateSize, depthIn, elementsIn, rootIn, presenceIn, openPlace, lastPlace, layout, listed, stateOf, Good}
+use Rattle.state.specs.State.{stateSize, depthIn, elementsIn, rootIn, presenceIn, openPlace, lastPlace, layout, stateOf, Good}
 use Rattle.state.specs.Stores.{clearedBelow, openingRun, rootAfter, closingRun}
-use Rattle.state.proofs.BitLaws.{with-bit-small, with-bit-at}
-use Rattle.state.proofs.ByteLaws.{word-small}
-use Rattle.state.proofs.ListedLaws.{listed-at, listed-same, listed-all, listed-set}
+use Rattle.numbers.proofs.WithBit.{with-bit-small, with-bit-at}
+use Rattle.numbers.proofs.ByteLaws.{word-small}
+use Rattle.numbers.proofs.Lists.{listed-at, listed-same, listed-all, listed-set}
 use Rattle.state.proofs.RunLaws.{told, Fits, read-run}
-use Rattle.numbers.specs.Bits.{bitAt, wordBits}
+use Rattle.numbers.specs.Bits.{bitAt, wordBits, withBit}
+use Rattle.numbers.specs.Lists.{listed}
 
 -- Two states with the same parts are one.
 pub state-same : {d d′ e e′ : ℕ} {r r′ : Bool} {p p′ : List Bool} {o o′ l l′ : List ℕ} → d ≡ d′ → e ≡ e′ → r ≡ r′ → p ≡ p′ → o ≡ o′ → l ≡ l′

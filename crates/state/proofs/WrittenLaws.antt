@@ -14,15 +14,14 @@ use lib.Pow.{pow-mono}
 use Rattle.rules.specs.declared.rule.Entry.{Entry}
 use Rattle.terms.specs.Limits.{elementsMost, levelsMost}
 use Rattle.reports.specs.Tags.{Tag, opens, closes}
-use Rattle.grammar.specs.Bytes.{Bytes}
+use Rattle.numbers.specs.Bytes.{Bytes, wordAt}
 use Rattle.meaning.specs.OnePass.{State, fault, openedWord, opened, closed, after}
 use Rattle.meaning.proofs.StepTable.{step-small}
-use Rattle.state.specs.Bytes.{wordAt}
 use Rattle.state.specs.Layout.{countIn, placeFrom, widthIn}
 use Rattle.state.specs.State.{depthIn, elementsIn, rootIn, presenceIn, openPlace, layout, stateOf, Good}
 use Rattle.state.specs.Stores.{openingRun, openedBytes, rootAfter, closingRun, closedBytes, written}
 use Rattle.state.proofs.NumberLaws.{opens-room, closes-room}
-use Rattle.state.proofs.ListedLaws.{listed-at, listed-put}
+use Rattle.numbers.proofs.Lists.{listed-at, listed-put}
 use Rattle.state.proofs.RunLaws.{told, Fits, run-length, run-bytes}
 use Rattle.state.proofs.StateLaws.{state-same, run-number, run-state, with-bit-listed, cleared-listed, opening-fits, closing-fits}
 use Rattle.numbers.specs.Bits.{wordBits}

@@ -3,7 +3,7 @@
 -- Laws: proofs/RunLaws.antt. Assumes nothing.
 use Prim.Native.Nat.{ℕ, zero, suc, _+_, _*_}
 use mathlib.Core.List.{List, [], _∷_}
-use Rattle.state.specs.Bytes.{wordAt, putAt}
+use Rattle.numbers.specs.Bytes.{wordAt, numberPut}
 
 -- So many numbers of so many bytes each.
 pub record Group : Type 0 where
@@ -49,4 +49,4 @@ module _ (layout : List Group) where
   -- The byte string after a run of stores, the first of them first.
   unfoldable pub stored : List Store → List ℕ → List ℕ
   stored [] s = s
-  stored (x ∷ xs) s = stored xs (putAt (widthIn layout (x .group)) (placeIn layout (x .group) (x .index)) (x .value) s)
+  stored (x ∷ xs) s = stored xs (numberPut (widthIn layout (x .group)) (placeIn layout (x .group) (x .index)) (x .value) s)

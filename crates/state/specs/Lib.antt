@@ -1,5 +1,4 @@
 -- The state's bytes, and what start, an opening and a closing promise of them. Read in this order.
-pub mod Bytes
 pub mod Layout
 pub mod State
 pub mod Stores

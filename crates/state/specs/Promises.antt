@@ -11,11 +11,11 @@ use lib.ListN.{length}
 use Rattle.terms.specs.Limits.{levelsMost}
 use Rattle.reports.specs.Tags.{Tag, opens, closes}
 use Rattle.meaning.specs.OnePass.{fault}
-use Rattle.state.specs.Bytes.{wordAt}
 use Rattle.state.specs.State.{stateSize, depthIn, presenceIn, openPlace, lastPlace, stateOf, bad}
 use Rattle.state.specs.Stores.{startAfter, opening, closing}
 use Rattle.state.specs.declared.state.Words.{Words}
 use Rattle.numbers.specs.Bits.{bitAt}
+use Rattle.numbers.specs.Bytes.{wordAt}
 
 -- ---- what an opening reads
 

@@ -10,10 +10,11 @@ use mathlib.Core.List.{List, [], _∷_}
 use lib.Dec.{eqb, ltb}
 use lib.ListN.{length, getD}
 use Rattle.meaning.specs.OnePass.{State}
-use Rattle.state.specs.Bytes.{wordAt}
 use Rattle.state.specs.Layout.{Group}
 use Rattle.terms.specs.Limits.{elementsMost, levelsMost}
 use Rattle.numbers.specs.Bits.{bitAt}
+use Rattle.numbers.specs.Bytes.{wordAt}
+use Rattle.numbers.specs.Lists.{listed}
 
 -- The size of a state.
 abbrev pub stateSize : ℕ
@@ -44,12 +45,6 @@ abbrev pub layout : List Group
 layout =
     record { width = 2; count = 1 } ∷ record { width = 2; count = 1 } ∷ record { width = 2; count = 1 } ∷ record { width = 2; count = 1 }
     ∷ record { width = 8; count = 1 } ∷ record { width = 8; count = levelsMost } ∷ record { width = 8; count = levelsMost } ∷ []
-
--- The list of f's values at the numbers below n.
-module _ {A : Type 0} where
-  unfoldable pub listed : ℕ → (ℕ → A) → List A
-  listed zero f = []
-  listed (suc n) f = f 0 ∷ listed n (λ i. f (suc i))
 
 -- The state of the step table that the bytes are: depth and elements, whether the root is closed, and for each of 64 levels the
 -- presence bit, the open word and the last word.

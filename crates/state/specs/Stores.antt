@@ -9,9 +9,10 @@ use lib.ListN.{length, replicate}
 use Rattle.rules.specs.declared.rule.Entry.{Entry}
 use Rattle.reports.specs.Tags.{Tag, opens, closes}
 use Rattle.meaning.specs.OnePass.{openedWord}
-use Rattle.state.specs.Bytes.{wordAt, withBit}
 use Rattle.state.specs.Layout.{Store, stored}
 use Rattle.state.specs.State.{stateSize, depthIn, elementsIn, rootIn, presenceIn, openPlace, layout, stateOf}
+use Rattle.numbers.specs.Bytes.{wordAt}
+use Rattle.numbers.specs.Bits.{withBit}
 
 -- Start fills a state of the right length with zeros; any other stays as it was.
 unfoldable pub startAfter : List ℕ → List ℕ

@@ -4,19 +4,19 @@ ghost use mathlib.Core.Bool.{cond};
 ghost use Prim.Native.Nat.{pred, _<_, _≤_};
 ghost use lib.Dec.{eqb};
 ghost use lib.ListN.{length, replicate};
-ghost use Rattle.state.specs.Bytes.{wordAt};
 ghost use Rattle.state.specs.State.{stateSize, presenceIn, openPlace, lastPlace, bad};
 ghost use Rattle.state.specs.Stores.{clearedBelow, openedBytes, rootAfter, closedBytes};
 ghost use Rattle.terms.specs.Limits.{elementsMost, levelsMost};
-use crate::bytes::number_at;
 use crate::bytes::put_number;
 use crate::bytes::put_word;
 use crate::bytes::word_at;
 use crate::word::with_bit;
 use numbers::bits::bit_at;
+use numbers::bytes::number_at;
 use terms::limits::ELEMENTS_MOST;
 use terms::limits::LEVELS_MOST;
 ghost use Rattle.numbers.specs.Bits.{bitAt};
+ghost use Rattle.numbers.specs.Bytes.{wordAt};
 
 // How many bytes a state has.
 pub(crate) const STATE_BYTES: usize = 1040;

@@ -2,7 +2,6 @@
 // other than 0 is a refusal, and then the bytes are as they were.
 ghost use mathlib.Core.Path.{_≡_};
 ghost use Rattle.state.specs.Promises.{WordsRead, StateStarted, StateOpened, StateClosed};
-use crate::bytes::number_at;
 use crate::fields::STATE_BYTES;
 use crate::fields::bad_state;
 use crate::fields::clear;
@@ -10,6 +9,7 @@ use crate::fields::parent_word;
 use crate::fields::sibling_word;
 use crate::fields::store_closing;
 use crate::fields::store_opening;
+use numbers::bytes::number_at;
 use reports::report::close_fault;
 use reports::report::open_fault;
 use terms::limits::LEVELS_MOST;

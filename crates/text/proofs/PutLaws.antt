@@ -11,8 +11,8 @@ use lib.ListN.{length, getD, set, take, length-append}
 use lib.Seq.{sets, take-suc, take-all}
 use Rattle.text.specs.Text.{headerLine, elementLine, closingLine, elementLines, acceptedText}
 use Rattle.text.proofs.TextLaws.{elements-more, accepted-is}
-use Rattle.text.specs.Rendered.{bufferSize, putAt, Put, Rendered}
-use Rattle.numbers.specs.Lists.{listed}
+use Rattle.text.specs.Rendered.{bufferSize, Put, Rendered}
+use Rattle.numbers.specs.Lists.{listed, putAt}
 
 -- Nothing is put.
 pub put-none : (out : List ℕ) (at : ℕ) → Put [] out at (at + 0) out

@@ -7,18 +7,14 @@ use mathlib.Core.Bool.{Bool, cond}
 use mathlib.Core.List.{List, flatten}
 use lib.Dec.{ltb}
 use lib.ListN.{length, getD}
-use lib.Seq.{sets}
 use Rattle.text.specs.Text.{elementLines, acceptedText}
 use Rattle.terms.specs.Limits.{elementsMost}
 use Rattle.numbers.specs.Bits.{bitAt}
+use Rattle.numbers.specs.Lists.{putAt}
 
 -- How many bytes the buffer has.
 abbrev pub bufferSize : ℕ
 bufferSize = 81920
-
--- A lent list with bytes stored from an offset on; every other byte keeps its contents.
-unfoldable pub putAt : List ℕ → ℕ → List ℕ → List ℕ
-putAt out at bytes = sets out at bytes
 
 -- What putting bytes at an offset answers and leaves: the offset past them, and the list with them.
 pub record Put (bytes out : List ℕ) (at r : ℕ) (after : List ℕ) : Type 0 where

@@ -10,6 +10,7 @@ use crate::put::put_field;
 use crate::put::put_phrase;
 use crate::put::put_word;
 use numbers::bits::bit_at;
+use numbers::bytes::wide;
 use terms::limits::ELEMENTS_MOST;
 
 // Puts an element's number, label, level and verdict.
@@ -28,13 +29,6 @@ fn put_element(
     let b = put_field(out, a, label, b' ');
     let c = put_field(out, b, level, b' ');
     put_field(out, c, verdict as usize, b'\n')
-}
-
-// A number of a table.
-fn wide(x: u16) -> usize
-    ensures { λ r. ⌜ (r ≡ x) × (r < 65536) ⌝ }
-{
-    x as usize
 }
 
 // How many elements the tables have, of so many.

@@ -11,7 +11,7 @@ use lib.ListN.{length, drop, length-append}
 use lib.Seq.{sets}
 use Rattle.terms.specs.Kinds.{rowOf}
 use Rattle.rules.specs.declared.rule.Entry.{Entry}
-use Rattle.grammar.specs.Bytes.{twoBytes}
+use Rattle.numbers.specs.Bytes.{twoBytes}
 use Rattle.grammar.specs.Rules.{bodyOf, recordOf, ruleBytes}
 use Rattle.grammar.specs.When.{Sized}
 use Rattle.paths.specs.Syntax.{Test}

@@ -8,11 +8,11 @@ use lib.ListN.{length, length-append}
 use lib.Seq.{length-sets}
 use Rattle.rules.specs.declared.rule.Entry.{Entry}
 use Rattle.grammar.specs.Rules.{recordOf, ruleBytes}
-use Rattle.text.specs.Rendered.{putAt}
 use Rattle.paths.specs.Translation.{lastOf, put}
 use Rattle.typing.specs.declared.put.Written.{Written}
 use Rattle.typing.specs.Writing.{Change, Filled, Asks, Puts}
 use Rattle.terms.specs.Limits.{entriesMost}
+use Rattle.numbers.specs.Lists.{putAt}
 
 -- ---- growth
 

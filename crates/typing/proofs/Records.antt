@@ -8,7 +8,7 @@ use borrow.Author.Tests.{le-leb}
 use lib.ListN.{length, set, length-append}
 use Rattle.terms.specs.Kinds.{rowOf}
 use Rattle.terms.proofs.Rows.{row-measured}
-use Rattle.grammar.specs.Bytes.{twoBytes}
+use Rattle.numbers.specs.Bytes.{twoBytes}
 use Rattle.grammar.specs.Rules.{bodyOf, recordOf, ruleBytes}
 use Rattle.text.specs.Rendered.{Put}
 use Rattle.text.proofs.PutLaws.{put-none, put-one, put-then, put-as}

@@ -6,13 +6,13 @@ use native.Mathlib.Nat.{zero-add}
 use lib.ListN.{length, drop}
 use lib.Seq.{sets, sets-eq}
 use Rattle.grammar.specs.Rules.{ruleBytes}
-use Rattle.text.specs.Rendered.{putAt}
 use Rattle.text.proofs.PutLaws.{put-none}
 use Rattle.paths.specs.Syntax.{Test}
 use Rattle.paths.specs.Translation.{putT, tableOf}
 use Rattle.typing.specs.declared.put.Written.{Written}
 use Rattle.typing.specs.Writing.{Filled, Asks, Puts}
 use Rattle.terms.specs.Limits.{entriesMost}
+use Rattle.numbers.specs.Lists.{putAt}
 
 -- Nothing is written yet.
 abbrev pub nothing : Written

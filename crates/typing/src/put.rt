@@ -2,7 +2,7 @@
 ghost use mathlib.Core.Path.{_≡_};
 ghost use Prim.Native.Nat.{_+_, _≤_, pred};
 ghost use lib.ListN.{length};
-ghost use Rattle.grammar.specs.Bytes.{twoBytes};
+ghost use Rattle.numbers.specs.Bytes.{twoBytes};
 ghost use Rattle.text.specs.Rendered.{Put};
 ghost use Rattle.typing.specs.Writing.{oneMore, numbers, Asks, Puts};
 use terms::kind::row_of;

@@ -1,6 +1,6 @@
 -- `number_at` reads the two bytes. Assumes nothing.
 use borrow.Author.Needs.{needs}
-use Rattle.numbers.specs.Bytes.{numberAt}
+use Rattle.numbers.specs.Bytes.{wordAt, numberAt}
 use Rattle.numbers.proofs.bytes.number_at.Statement.{statement}
 use Rattle.numbers.proofs.bytes.number_at.Tie as tie
 
@@ -26,7 +26,7 @@ add-result : tie.Need-add-result
 add-result c = search needs
 
 returns : tie.Need-returns
-unfolding numberAt
+unfolding wordAt
 returns c = search needs
 
 pub number-at-spec : {M : Type 1} → statement M

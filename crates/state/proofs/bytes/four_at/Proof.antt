@@ -1,7 +1,7 @@
 -- `four_at` reads two numbers of two bytes. Assumes nothing.
 use mathlib.Core.Path.{sym}
 use native.Mathlib.Omega.{arith}
-use Rattle.state.proofs.ByteLaws.{word-split}
+use Rattle.numbers.proofs.ByteLaws.{word-split}
 use borrow.Author.Needs.{needs}
 use Rattle.state.proofs.bytes.four_at.Statement.{statement}
 use Rattle.state.proofs.bytes.four_at.Tie as tie

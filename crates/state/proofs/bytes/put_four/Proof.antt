@@ -1,6 +1,6 @@
 -- `put_four` stores two numbers of two bytes. Assumes nothing.
 use mathlib.Core.Path.{sym}
-use Rattle.state.proofs.ByteLaws.{put-split}
+use Rattle.numbers.proofs.ByteLaws.{put-split}
 use borrow.Author.Needs.{needs}
 use Rattle.state.proofs.bytes.put_four.Statement.{statement}
 use Rattle.state.proofs.bytes.put_four.Tie as tie

@@ -2,10 +2,10 @@
 use mathlib.Core.Path.{refl}
 use native.Mathlib.Omega.{arith}
 use lib.ListN.{length-set}
-use Rattle.state.specs.Bytes.{putAt}
 use borrow.Author.Needs.{needs}
 use Rattle.state.proofs.bytes.put_two.Statement.{statement}
 use Rattle.state.proofs.bytes.put_two.Tie as tie
+use Rattle.numbers.specs.Bytes.{numberPut}
 
 cast-s : tie.Need-cast-s
 cast-s c = search needs
@@ -26,7 +26,7 @@ same-length : tie.Need-same-length
 same-length c = search needs
 
 returns : tie.Need-returns
-unfolding putAt
+unfolding numberPut
 returns c = refl
 
 pub put-two-spec : {M : Type 1} → statement M

@@ -1,6 +1,6 @@
 -- `put_word` stores two numbers of four bytes. Assumes nothing.
 use mathlib.Core.Path.{sym}
-use Rattle.state.proofs.ByteLaws.{put-split}
+use Rattle.numbers.proofs.ByteLaws.{put-split}
 use borrow.Author.Needs.{needs}
 use Rattle.state.proofs.bytes.put_word.Statement.{statement}
 use Rattle.state.proofs.bytes.put_word.Tie as tie

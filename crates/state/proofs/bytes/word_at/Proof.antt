@@ -1,6 +1,6 @@
 -- `word_at` reads two numbers of four bytes. Assumes nothing.
 use mathlib.Core.Path.{sym}
-use Rattle.state.proofs.ByteLaws.{word-split}
+use Rattle.numbers.proofs.ByteLaws.{word-split}
 use borrow.Author.Needs.{needs}
 use Rattle.state.proofs.bytes.word_at.Statement.{statement}
 use Rattle.state.proofs.bytes.word_at.Tie as tie

@@ -1,5 +1,5 @@
 -- `with_bit` takes bit i out and puts it in anew. Assumes nothing.
-use Rattle.state.proofs.BitLaws.{out-le, with-bit-machine, with-bit-room}
+use Rattle.numbers.proofs.WithBit.{out-le, with-bit-machine, with-bit-room}
 use borrow.Author.Needs.{needs}
 use Rattle.state.proofs.word.with_bit.Statement.{statement}
 use Rattle.state.proofs.word.with_bit.Tie as tie

@@ -8,9 +8,8 @@ use mathlib.Core.Bool.{Bool, true, false, cond}
 use borrow.Author.Tests.{eq-eqb, ne-eqb}
 use lib.Dec.{eqb}
 use lib.Pow.{pow-pos, pow-add, high, low, split, shl-exact, shr-shr, field, mod-mod-pow}
-use Rattle.state.specs.Bytes.{withBit}
-use Rattle.numbers.specs.Bits.{bit, bitAt, wordBits}
+use Rattle.numbers.specs.Bits.{bit, bitAt, wordBits, withBit}
 use Rattle.numbers.proofs.BitLaws.{bit-small, word-lt, word-bit, word-only}
 
 -- ---- a bit put to a value
 

@@ -1,30 +1,30 @@
 -- Numbers as bytes, both ways: the number that stands where its two bytes stand, and the bytes that stand where a number is read.
--- Laws of records/specs/Bytes.antt and grammar/specs/Bytes.antt. Assumes nothing.
+-- Assumes nothing.
 use Prim.Native.Nat.{ℕ, suc, _+_, _*_, _/_, _%_, _<_}
-use native.Mathlib.Nat.{div-add-mod', add-mul-mod-self-left, add-mul-div-left, mod-eq-of-lt, div-eq-of-lt, add-assoc, zero-add}
+use native.Mathlib.Nat.{div-add-mod', add-mul-mod-self-left, add-mul-div-left, mod-eq-of-lt, div-eq-of-lt, add-assoc, zero-add, add-zero}
 use native.Mathlib.Numerals.{add-one}
 use native.Mathlib.Omega.{arith}
 use mathlib.Core.Path.{_≡_, sym}
 use mathlib.Core.List.{List, [], _∷_, _++_}
 use lib.ListN.{length, take, drop, take-append-drop}
 use lib.Seq.{drop-cons, drop-drop, take-add, getD-append-add}
-use Rattle.numbers.specs.Bytes.{numberAt}
-use Rattle.grammar.specs.Bytes.{twoBytes, Bytes}
+use Rattle.numbers.specs.Bytes.{wordAt, numberAt}
+use Rattle.numbers.specs.Bytes.{twoBytes, Bytes}
 
 -- The number read where a number's two bytes stand is that number.
 pub number-back : (n : ℕ) (rest : List ℕ) → numberAt (twoBytes n ++ rest) 0 ≡ n
-unfolding numberAt twoBytes
+unfolding wordAt twoBytes
 number-back n rest = omega (arith, div-add-mod' n 256)
 
 -- Two bytes are the bytes of the number that they make.
-two-bytes-of : (x y : ℕ) → x < 256 → x ∷ y ∷ [] ≡ twoBytes (x + 256 * y)
+two-bytes-of : (x y : ℕ) → x < 256 → x ∷ y ∷ [] ≡ twoBytes (x + 256 * (y + 256 * 0))
 unfolding twoBytes
 two-bytes-of x y h =
-    sym (rw (add-mul-mod-self-left x 256 y, add-mul-div-left x y {y = 256} (omega arith), mod-eq-of-lt h, div-eq-of-lt h, zero-add))
+    sym (rw (add-zero y, add-mul-mod-self-left x 256 y, add-mul-div-left x y {y = 256} (omega arith), mod-eq-of-lt h, div-eq-of-lt h, zero-add))
 
 -- Reading a number after a list that stands in front is reading it in the rest.
 pub number-shift : (xs ys : List ℕ) (k : ℕ) → numberAt (xs ++ ys) (length xs + k) ≡ numberAt ys k
-unfolding numberAt
+unfolding wordAt
 number-shift xs ys k = rw (add-assoc, getD-append-add xs ys k 0, getD-append-add xs ys (k + 1) 0)
 
 -- The same where the offset is given by an equation.
@@ -33,7 +33,7 @@ number-at xs ys at k e = rw e (number-shift xs ys k)
 
 -- The two bytes at an offset are those of the number read there.
 pub bytes-back : (s : List ℕ) (at : ℕ) → Bytes s → at + 1 < length s → take 2 (drop at s) ≡ twoBytes (numberAt s at)
-unfolding numberAt
+unfolding wordAt
 bytes-back s at bytes h =
     let l : at < length s = omega arith in
     let m : suc at < length s = omega arith in
