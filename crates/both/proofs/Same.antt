@@ -18,7 +18,7 @@ use Rattle.marking.specs.Evaluation.{Evaluated}
 use Rattle.marking.specs.declared.report.Evaluation.{Evaluation}
 use Rattle.marking.proofs.Means.{word-is}
 use Rattle.onepass.specs.Step.{Started}
-use Rattle.onepass.specs.Calls.{Call, Calls, tagsOf}
+use Rattle.onepass.specs.Calls.{Call, Calls, tagsCalled}
 use Rattle.onepass.specs.declared.export.StepReply.{StepReply}
 use Rattle.onepass.proofs.Agrees.{tags-append, report-fed}
 use Rattle.rules.specs.Entries.{entriesOf}
@@ -27,11 +27,11 @@ use Rattle.numbers.specs.Bits.{bit, bitAt}
 
 -- An opening among an accepted report's tags is one of its elements.
 pub opening-there : (report : List ℕ) (n : ℕ) → reportAnswer report ≡ Accepted n → (before : List Call) (label : ℕ) (r : StepReply) (later : List Call)
-    → tagsOf (before ++ (record { tag = opens label; answer = r } ∷ later)) ≡ tagsIn report → openedCount (tagsOf before) < length (levelsOf report)
-unfolding tagsOf labels
+    → tagsCalled (before ++ (record { tag = opens label; answer = r } ∷ later)) ≡ tagsIn report → openedCount (tagsCalled before) < length (levelsOf report)
+unfolding tagsCalled labels
 opening-there report n report-taken before label r later fed =
-    let all : openedCount (tagsIn report) ≡ openedCount (tagsOf before) + openedCount (opens label ∷ tagsOf later) =
-    ap openedCount (sym fed ∙ tags-append before (record { tag = opens label; answer = r } ∷ later)) ∙ opened-append (tagsOf before) (opens label ∷ tagsOf later) in
+    let all : openedCount (tagsIn report) ≡ openedCount (tagsCalled before) + openedCount (opens label ∷ tagsCalled later) =
+    ap openedCount (sym fed ∙ tags-append before (record { tag = opens label; answer = r } ∷ later)) ∙ opened-append (tagsCalled before) (opens label ∷ tagsCalled later) in
     let count : length (labelsOf report) ≡ openedCount (tagsIn report) = ap length (labels-accepted report n report-taken) in
     omega (arith, all, count, elements-count report, levels-elements report)
 
@@ -43,9 +43,9 @@ module _ (rule report : List ℕ) (m n : ℕ) (rule-taken : ruleAnswer rule ≡ 
       → (given start end : List ℕ) (r₀ : StepReply) → Started given r₀ start → r₀ .number ≡ 0
       → (before : List Call) (label : ℕ) (r : StepReply) (later : List Call)
       → Calls rule start (before ++ (record { tag = opens label; answer = r } ∷ later)) end
-      → tagsOf (before ++ (record { tag = opens label; answer = r } ∷ later)) ≡ tagsIn report
-      → (r .number ≡ 0) × (r .verdict ≡ bit (bitAt (getD after (openedCount (tagsOf before)) 0) (pred (length (entriesOf rule)))))
+      → tagsCalled (before ++ (record { tag = opens label; answer = r } ∷ later)) ≡ tagsIn report
+      → (r .number ≡ 0) × (r .verdict ≡ bit (bitAt (getD after (openedCount (tagsCalled before)) 0) (pred (length (entriesOf rule)))))
   engines-agree marks after e evaluated zero given start end r₀ started begun before label r later calls fed =
       let q = report-fed rule m rule-taken back given start r₀ started begun report n bytes report-taken
       (before ++ (record { tag = opens label; answer = r } ∷ later)) end calls fed before label r later refl in
-      (q .0, q .1 ∙ rw (word-is rule report marks e after evaluated zero (openedCount (tagsOf before)) (opening-there report n report-taken before label r later fed)))
+      (q .0, q .1 ∙ rw (word-is rule report marks e after evaluated zero (openedCount (tagsCalled before)) (opening-there report n report-taken before label r later fed)))

@@ -20,7 +20,7 @@ use Rattle.marking.specs.Evaluation.{Evaluated}
 use Rattle.marking.specs.declared.report.Evaluation.{Evaluation}
 use Rattle.marking.proofs.Means.{bit-iff}
 use Rattle.onepass.specs.Step.{Started}
-use Rattle.onepass.specs.Calls.{Call, Calls, tagsOf}
+use Rattle.onepass.specs.Calls.{Call, Calls, tagsCalled}
 use Rattle.onepass.specs.declared.export.StepReply.{StepReply}
 use Rattle.onepass.proofs.Agrees.{report-fed}
 use Rattle.terms.specs.Kinds.{leadsBack}
@@ -84,12 +84,12 @@ module _ (text lent after : List ℕ) (r : PathReply) (t : Test) (typed : Typed 
       → (given start end : List ℕ) (r₀ : StepReply) → Started given r₀ start → r₀ .number ≡ 0
       → (before : List Call) (label : ℕ) (a : StepReply) (later : List Call)
       → Calls rule start (before ++ (record { tag = opens label; answer = a } ∷ later)) end
-      → tagsOf (before ++ (record { tag = opens label; answer = a } ∷ later)) ≡ tagsIn report
-      → (a .number ≡ 0) × ((a .verdict ≡ 1) ↔ Selects (levelsOf report) (labelsOf report) t (openedCount (tagsOf before)))
+      → tagsCalled (before ++ (record { tag = opens label; answer = a } ∷ later)) ≡ tagsIn report
+      → (a .number ≡ 0) × ((a .verdict ≡ 1) ↔ Selects (levelsOf report) (labelsOf report) t (openedCount (tagsCalled before)))
   opened-selects back report n bytes report-taken given start end r₀ started begun before label a later calls fed =
       let accepted = table-taken t (spelt .labels) few in
       let looks : LooksBack (entriesOf (bytesFor t)) = rw (accepted .1) (table-back t .1 back) in
-      let s = openedCount (tagsOf before) in
+      let s = openedCount (tagsCalled before) in
       let cs = before ++ (record { tag = opens label; answer = a } ∷ later) in
       let fed-rule : Calls (bytesFor t) start cs end = rw rule-is at calls in
       let q = report-fed (bytesFor t) _ (accepted .0) looks given start r₀ started begun report n bytes report-taken cs end fed-rule fed before label a later refl in

@@ -30,16 +30,18 @@ use Rattle.meaning.proofs.Taken.{taken-append, taken-fit, after-append}
 use Rattle.walk.proofs.WalkLaws.{back-ahead}
 use Rattle.state.specs.Promises.{startNumber}
 use Rattle.state.specs.State.{stateSize, stateOf, Good}
-use Rattle.state.specs.Stores.{startAfter, written}
+use Rattle.state.specs.Stores.{startAfter, bytesAfter}
 use Rattle.state.proofs.StateLaws.{zeros-fresh, zeros-good, zeros-bytes}
 use Rattle.state.proofs.WrittenLaws.{written-state, written-good, written-bytes}
-use Rattle.onepass.specs.Calls.{Call, Promised, Calls, done, then, tagsOf, taken, takenTags, Begins}
-use Rattle.onepass.specs.Step.{stepAnswer, stepAfter, callNumber, answerOf, stateAfter, Started, Opened}
+use Rattle.onepass.specs.Calls.{Call, Promised, Calls, done, then, tagsCalled, taken, takenTags, Begins}
+use Rattle.onepass.specs.Step.{callNumber, callOutcome, answerOf, stateAfter, Started, Opened}
 use Rattle.onepass.specs.declared.export.StepReply.{StepReply}
 use Rattle.onepass.proofs.CallLaws.{call-taken, call-number}
 use Rattle.rules.specs.Entries.{entriesOf}
 use Rattle.reports.specs.Elements.{levelsOf, labelsOf}
 use Rattle.numbers.specs.Bits.{bit, bitAt}
+use Rattle.terms.specs.Answer.{numberOf, byAnswer, numbered}
+use Rattle.terms.proofs.AnswerLaws.{numbered-number}
 
 -- ---- one call
 
@@ -51,14 +53,11 @@ promised-both rule s closes p = (p .answer, p .state-is)
 
 -- A call that is not answered 0 leaves the state as it was.
 pub refused-kept : (rule s : List ℕ) (t : Tag) (r : StepReply) (next : List ℕ) → Promised rule s t r next → (r .number ≡ 0 → ⊥) → next ≡ s
-unfolding answerOf stateAfter stepAnswer stepAfter
-refused-kept rule s t r next p n = go (ruleAnswer rule) refl where
-  go : (a : Answer) → ruleAnswer rule ≡ a → next ≡ s
-  go (Accepted m) e =
-      let b = promised-both rule s t p in
-      let k : r .number ≡ callNumber (entriesOf rule) s t = ap (λ (x : StepReply). x .number) (b .0) ∙ rw e in
-      b .1 ∙ rw (e, ne-eqb (callNumber (entriesOf rule) s t) 0 (λ z. n (k ∙ z)))
-  go (Refused k q) e = promised-both rule s t p .1 ∙ rw e
+unfolding answerOf stateAfter
+refused-kept rule s t r next p n = promised-both rule s t p .1 ∙ go (callOutcome rule s t) refl where
+  go : (a : Answer) → callOutcome rule s t ≡ a → byAnswer a (bytesAfter (entriesOf rule) s t) s ≡ s
+  go (Accepted m) e = absurd (n (ap (λ (x : StepReply). x .number) (promised-both rule s t p .0) ∙ ap numberOf e))
+  go (Refused k q) e = refl
 
 left-out-one : {rule s next end : List ℕ} (c : Call) (cs : List Call) → Promised rule s (c .tag) (c .answer) next
     → Calls rule next (taken cs) end → Calls rule s (taken (c ∷ cs)) end
@@ -82,8 +81,8 @@ calls-split (b ∷ before) c later s (then {next = next} p more) =
     let r = calls-split before c later next more in (r .0, r .1, then p (r .2), r .3, r .4)
 
 -- The tags of calls one after the other.
-pub tags-append : (cs ds : List Call) → tagsOf (cs ++ ds) ≡ tagsOf cs ++ tagsOf ds
-unfolding tagsOf
+pub tags-append : (cs ds : List Call) → tagsCalled (cs ++ ds) ≡ tagsCalled cs ++ tagsCalled ds
+unfolding tagsCalled
 tags-append [] ds = refl
 tags-append (c ∷ cs) ds = ap (λ (ts : List Tag). c .tag ∷ ts) (tags-append cs ds)
 
@@ -119,26 +118,26 @@ module _ (rule : List ℕ) (m : ℕ) (accepted : ruleAnswer rule ≡ Accepted m)
   es = entriesOf rule
 
   -- The bytes are the state after the tags, which the table takes; they pass the test.
-  pub record Reached (ts : List Tag) (s : List ℕ) : Type 0 where
+  pub record ReachedBy (ts : List Tag) (s : List ℕ) : Type 0 where
     pub good : Good s
     pub bytes : Bytes s
     pub state-is : stateOf s ≡ afterAll es fresh ts
     pub taken-are : Taken es fresh ts
 
   -- A call in such a state is answered the tag's own fault.
-  reached-number : (ts : List Tag) (s : List ℕ) → Reached ts s → (t : Tag) → callNumber es s t ≡ fault (afterAll es fresh ts) t
+  reached-number : (ts : List Tag) (s : List ℕ) → ReachedBy ts s → (t : Tag) → callNumber es s t ≡ fault (afterAll es fresh ts) t
   reached-number ts s h t = call-number es s t (back-ahead es back) (h .good) ∙ rw (h .state-is)
 
   answer-number : (s : List ℕ) (t : Tag) {r : StepReply} → r ≡ answerOf rule s t → r .number ≡ callNumber es s t
-  unfolding answerOf stepAnswer
-  answer-number s t e = ap (λ (x : StepReply). x .number) e ∙ rw accepted
+  unfolding callOutcome answerOf
+  answer-number s t e = ap (λ (x : StepReply). x .number) e ∙ rw accepted (numbered-number (callNumber es s t) 0)
 
-  state-written : (s : List ℕ) (t : Tag) → callNumber es s t ≡ 0 → stateAfter rule s t ≡ written es s t
-  unfolding stateAfter stepAfter
+  state-written : (s : List ℕ) (t : Tag) → callNumber es s t ≡ 0 → stateAfter rule s t ≡ bytesAfter es s t
+  unfolding callOutcome stateAfter numbered
   state-written s t z = rw (accepted, z)
 
   -- A call that is answered 0 leads on by its tag.
-  reached-taken : (ts : List Tag) (s : List ℕ) → Reached ts s → (t : Tag) → callNumber es s t ≡ 0 → Reached (ts ++ (t ∷ [])) (written es s t)
+  reached-taken : (ts : List Tag) (s : List ℕ) → ReachedBy ts s → (t : Tag) → callNumber es s t ≡ 0 → ReachedBy (ts ++ (t ∷ [])) (bytesAfter es s t)
   unfolding Taken afterAll
   reached-taken ts s h t z =
       let f = call-taken es s t z .1 .1 in
@@ -151,42 +150,42 @@ module _ (rule : List ℕ) (m : ℕ) (accepted : ruleAnswer rule ≡ Accepted m)
       }
 
   -- A call leads on by its tag, or stays.
-  reached-call : (ts : List Tag) (s next : List ℕ) (c : Call) → Reached ts s → Promised rule s (c .tag) (c .answer) next
-      → Reached (ts ++ takenTags (c ∷ [])) next
-  unfolding taken tagsOf
+  reached-call : (ts : List Tag) (s next : List ℕ) (c : Call) → ReachedBy ts s → Promised rule s (c .tag) (c .answer) next
+      → ReachedBy (ts ++ takenTags (c ∷ [])) next
+  unfolding taken tagsCalled
   reached-call ts s next c h p = go (eqb (c .answer .number) 0) refl where
-    go : (b : Bool) → eqb (c .answer .number) 0 ≡ b → Reached (ts ++ tagsOf (cond b (c ∷ []) [])) next
+    go : (b : Bool) → eqb (c .answer .number) 0 ≡ b → ReachedBy (ts ++ tagsCalled (cond b (c ∷ []) [])) next
     go true e =
         let q = promised-both rule s (c .tag) p in
         let z = sym (answer-number s (c .tag) (q .0)) ∙ eqb-true _ 0 e in
-        subst (Reached (ts ++ (c .tag ∷ []))) (sym (q .1 ∙ state-written s (c .tag) z)) (reached-taken ts s h (c .tag) z)
+        subst (ReachedBy (ts ++ (c .tag ∷ []))) (sym (q .1 ∙ state-written s (c .tag) z)) (reached-taken ts s h (c .tag) z)
     go false e =
-        rw (append-nil ts) (subst (Reached ts) (sym (refused-kept rule s (c .tag) (c .answer) next p (eqb-false _ 0 e))) h)
+        rw (append-nil ts) (subst (ReachedBy ts) (sym (refused-kept rule s (c .tag) (c .answer) next p (eqb-false _ 0 e))) h)
 
   taken-more : (c : Call) (cs : List Call) → takenTags (c ∷ cs) ≡ takenTags (c ∷ []) ++ takenTags cs
-  unfolding taken tagsOf
+  unfolding taken tagsCalled
   taken-more c cs = go (eqb (c .answer .number) 0) where
-    go : (b : Bool) → tagsOf (cond b (c ∷ taken cs) (taken cs)) ≡ tagsOf (cond b (c ∷ []) []) ++ tagsOf (taken cs)
+    go : (b : Bool) → tagsCalled (cond b (c ∷ taken cs) (taken cs)) ≡ tagsCalled (cond b (c ∷ []) []) ++ tagsCalled (taken cs)
     go true = refl
     go false = refl
 
   -- Calls lead on by the tags of those that are answered 0.
-  reached-along : (ts : List Tag) {s end : List ℕ} {cs : List Call} → Reached ts s → Calls rule s cs end → Reached (ts ++ takenTags cs) end
-  unfolding taken tagsOf
+  reached-along : (ts : List Tag) {s end : List ℕ} {cs : List Call} → ReachedBy ts s → Calls rule s cs end → ReachedBy (ts ++ takenTags cs) end
+  unfolding taken tagsCalled
   reached-along ts h done = rw (append-nil ts) h
   reached-along ts {s = s} h (then {next = next} {c = c} {cs = cs} p more) =
       rw (taken-more c cs, ← append-assoc) (reached-along (ts ++ takenTags (c ∷ [])) (reached-call ts s next c h p) more)
 
   -- Calls whose tags the table takes are all answered 0.
-  all-taken : (ts : List Tag) {s end : List ℕ} {cs : List Call} → Reached ts s → Calls rule s cs end
-      → Taken es (afterAll es fresh ts) (tagsOf cs) → taken cs ≡ cs
-  unfolding Taken afterAll taken tagsOf
+  all-taken : (ts : List Tag) {s end : List ℕ} {cs : List Call} → ReachedBy ts s → Calls rule s cs end
+      → Taken es (afterAll es fresh ts) (tagsCalled cs) → taken cs ≡ cs
+  unfolding Taken afterAll taken tagsCalled
   all-taken ts h done f = refl
   all-taken ts {s = s} h (then {next = next} {c = c} {cs = cs} p more) f =
       let q = promised-both rule s (c .tag) p in
       let z = reached-number ts s h (c .tag) ∙ f .0 in
       let n = answer-number s (c .tag) (q .0) ∙ z in
-      let go-on = subst (Reached (ts ++ (c .tag ∷ []))) (sym (q .1 ∙ state-written s (c .tag) z)) (reached-taken ts s h (c .tag) z) in
+      let go-on = subst (ReachedBy (ts ++ (c .tag ∷ []))) (sym (q .1 ∙ state-written s (c .tag) z)) (reached-taken ts s h (c .tag) z) in
       rw (eq-eqb (c .answer .number) 0 n) (ap (λ (x : List Call). c ∷ x)
       (all-taken (ts ++ (c .tag ∷ [])) go-on more (rw (after-append es ts (c .tag ∷ []) fresh) (f .1))))
 
@@ -204,7 +203,7 @@ module _ (rule : List ℕ) (m : ℕ) (accepted : ruleAnswer rule ≡ Accepted m)
     started-state : stateOf start ≡ fresh
     started-state = rw start-zeros (zeros-fresh stateSize)
 
-    started-reached : Reached [] start
+    started-reached : ReachedBy [] start
     unfolding Taken afterAll
     started-reached =
         record {
@@ -215,7 +214,7 @@ module _ (rule : List ℕ) (m : ℕ) (accepted : ruleAnswer rule ≡ Accepted m)
         }
 
     -- Whatever the calls, the state that they lead to passes the test, and is the table's after the tags of those that are answered 0.
-    calls-reached : {end : List ℕ} {cs : List Call} → Calls rule start cs end → Reached (takenTags cs) end
+    calls-reached : {end : List ℕ} {cs : List Call} → Calls rule start cs end → ReachedBy (takenTags cs) end
     calls-reached calls = reached-along [] started-reached calls
 
     -- ---- an opening that is accepted
@@ -232,7 +231,7 @@ module _ (rule : List ℕ) (m : ℕ) (accepted : ruleAnswer rule ≡ Accepted m)
       number-zero = sym (answer-number (parts .0) (opens label) (parts .3 .answer)) ∙ zero
 
       verdict-is : r .verdict ≡ bit (openedVerdict es (afterAll es fresh tags) label)
-      unfolding answerOf stepAnswer
+      unfolding callOutcome answerOf numbered
       verdict-is =
           ap (λ (x : StepReply). x .verdict) (parts .3 .answer) ∙ rw (accepted, number-zero, calls-reached (parts .2) .state-is)
 
@@ -261,7 +260,7 @@ module _ (rule : List ℕ) (m : ℕ) (accepted : ruleAnswer rule ≡ Accepted m)
     -- ---- feeding an accepted report
 
     module _ (report : List ℕ) (n : ℕ) (bytes : Bytes report) (taken-report : reportAnswer report ≡ Accepted n)
-        (cs : List Call) (end : List ℕ) (calls : Calls rule start cs end) (fed : tagsOf cs ≡ tagsIn report) where
+        (cs : List Call) (end : List ℕ) (calls : Calls rule start cs end) (fed : tagsCalled cs ≡ tagsIn report) where
       -- Every call is answered 0.
       report-taken : taken cs ≡ cs
       unfolding afterAll
@@ -270,16 +269,16 @@ module _ (rule : List ℕ) (m : ℕ) (accepted : ruleAnswer rule ≡ Accepted m)
           (rw fed (taken-fit es (tagsIn report) .1 (accepted-legal report n taken-report .fit)))
 
       fed-begins : (before : List Call) (c : Call) (later : List Call) → cs ≡ before ++ (c ∷ later)
-          → Begins (tagsOf before ++ (c .tag ∷ [])) report n
-      unfolding tagsOf
+          → Begins (tagsCalled before ++ (c .tag ∷ [])) report n
+      unfolding tagsCalled
       fed-begins before c later e =
-          let split : tagsIn report ≡ tagsOf before ++ (c .tag ∷ tagsOf later) = sym fed ∙ ap tagsOf e ∙ tags-append before (c ∷ later) in
+          let split : tagsIn report ≡ tagsCalled before ++ (c .tag ∷ tagsCalled later) = sym fed ∙ ap tagsCalled e ∙ tags-append before (c ∷ later) in
           record {
             bytes = bytes;
             accepted = taken-report;
-            rest = bytesOf (tagsOf later);
-            begins = sym (bytes-append (tagsOf before ++ (c .tag ∷ [])) (tagsOf later))
-                ∙ ap bytesOf (append-assoc (tagsOf before) (c .tag ∷ []) (tagsOf later) ∙ sym split) ∙ report-bytes report n bytes taken-report;
+            rest = bytesOf (tagsCalled later);
+            begins = sym (bytes-append (tagsCalled before ++ (c .tag ∷ [])) (tagsCalled later))
+                ∙ ap bytesOf (append-assoc (tagsCalled before) (c .tag ∷ []) (tagsCalled later) ∙ sym split) ∙ report-bytes report n bytes taken-report;
           }
 
       -- At each opening the verdict is the last entry's bit of the meaning's word of that element.
@@ -287,12 +286,12 @@ module _ (rule : List ℕ) (m : ℕ) (accepted : ruleAnswer rule ≡ Accepted m)
           → cs ≡ before ++ (record { tag = opens label; answer = r } ∷ later)
           → (r .number ≡ 0)
           × (r .verdict
-          ≡ bit (bitAt (wordOf (entriesOf rule) (levelsOf report) (labelsOf report) (openedCount (tagsOf before))) (pred (length (entriesOf rule)))))
-      unfolding verdict tagsOf taken
+          ≡ bit (bitAt (wordOf (entriesOf rule) (levelsOf report) (labelsOf report) (openedCount (tagsCalled before))) (pred (length (entriesOf rule)))))
+      unfolding verdict tagsCalled taken
       report-fed before label r later e =
           let c : Call = record { tag = opens label; answer = r } in
           let q = taken-split before c later (sym (ap taken e) ∙ report-taken ∙ e) in
-          let tags : takenTags before ≡ tagsOf before = ap tagsOf (q .0) in (
+          let tags : takenTags before ≡ tagsCalled before = ap tagsCalled (q .0) in (
             q .1,
             verdict-agrees before label r later end (subst (λ (x : List Call). Calls rule start x end) e calls) (q .1) report n
                 (rw tags (fed-begins before c later e)) ∙ rw tags,

@@ -11,7 +11,8 @@ use lib.ListN.{length}
 use Rattle.terms.specs.declared.answer.Answer.{Answer}
 use Rattle.terms.specs.declared.answer.Answer.the-variants.{Accepted, Refused}
 use Rattle.rules.specs.declared.rule.Entry.{Entry}
-use Rattle.terms.specs.Answer.{placeOf, countOf}
+use Rattle.terms.specs.Answer.{placeOf, countOf, byAnswer, numbered}
+use Rattle.terms.proofs.AnswerLaws.{numbered-by}
 use Rattle.terms.specs.Limits.{ruleMost}
 use Rattle.rules.specs.Rule.{ruleAnswer}
 use Rattle.reports.specs.Tags.{Tag, opens, closes}
@@ -23,10 +24,10 @@ use Rattle.walk.specs.declared.walk.Walk.{Walk}
 use Rattle.walk.proofs.WalkLaws.{walked-ahead, walked-word, asked-ahead}
 use Rattle.state.specs.Promises.{WordsRead, stateNumber, StateOpened, StateClosed}
 use Rattle.state.specs.State.{stateOf, Good}
-use Rattle.state.specs.Stores.{opening, closing, written}
+use Rattle.state.specs.Stores.{opening, closing, bytesAfter}
 use Rattle.state.specs.declared.state.Words.{Words}
 use Rattle.state.proofs.NumberLaws.{state-taken, state-number, opened-read}
-use Rattle.onepass.specs.Step.{reply, stepNumber, stepAnswer, stepAfter, Stepped, callNumber, verdictOf, answerOf, stateAfter}
+use Rattle.onepass.specs.Step.{reply, replyOf, stepNumber, stepAnswer, stepAfter, Stepped, callNumber, verdictOf, callOutcome, answerOf, stateAfter}
 use Rattle.onepass.specs.declared.export.StepReply.{StepReply}
 use Rattle.rules.specs.Entries.{entriesOf}
 use Rattle.rules.proofs.EntryLaws.{rule-small}
@@ -35,24 +36,47 @@ use Rattle.numbers.proofs.BitLaws.{pred-sub}
 
 -- ---- what the code answers where the rule is accepted
 
+-- The reply and the bytes by the number.
+step-answer : (ahead : Bool) (s : List ℕ) (t : Tag) (v : Bool)
+    → stepAnswer ahead s t v ≡ reply (stepNumber ahead s t) 0 (bit (eqb (stepNumber ahead s t) 0 && v))
+unfolding stepAnswer numbered
+step-answer ahead s t v = go (eqb k 0) refl where
+  k : ℕ
+  k = stepNumber ahead s t
+
+  go : (b : Bool) → eqb k 0 ≡ b → replyOf (cond b (Accepted 0) (Refused k 0)) (bit v) ≡ reply k 0 (bit (b && v))
+  go true e = rw (eqb-true k 0 e)
+  go false e = refl
+
+step-after : (ahead : Bool) (s : List ℕ) (t : Tag) (x : List ℕ) → stepAfter ahead s t x ≡ cond (eqb (stepNumber ahead s t) 0) x s
+unfolding stepAfter
+step-after ahead s t x = numbered-by (stepNumber ahead s t) 0 x s
+
 -- An entry looks ahead: 10, no place, no verdict, and the bytes as they were.
 pub step-ahead : (s : List ℕ) (t : Tag) (verdict : Bool) (taken : List ℕ) (ahead : Bool) → ahead ≡ true
     → Stepped ahead s t verdict taken (reply 10 0 0) s
-unfolding stepNumber stepAnswer stepAfter
+unfolding stepNumber stepAnswer stepAfter numbered
 step-ahead s t verdict taken ahead e = record { answer = rw e; state-is = rw e }
 
 -- None does: an opening has the state's number, and where that is 0 the last entry's bit of the word.
 pub step-opened : (s : List ℕ) (label w n k : ℕ) (on : Bool) (after : List ℕ) (ahead : Bool) → ahead ≡ false → StateOpened s label w k after
     → on ≡ bitAt w (n - 1) → Stepped ahead s (opens label) (bitAt w (pred n)) (opening w s) (reply k 0 (bit (eqb k 0 && on))) after
-unfolding stepNumber stepAnswer stepAfter
+unfolding stepNumber
 step-opened s label w n k on after ahead e o b =
-    record { answer = rw (e, o .number-is, b, pred-sub n); state-is = rw e (o .state-is) }
+    record {
+      answer = rw (e, o .number-is, b, pred-sub n) (sym (step-answer false s (opens label) (bitAt w (pred n))));
+      state-is = rw e (o .state-is ∙ sym (step-after false s (opens label) (opening w s)));
+    }
 
 -- A closing has the state's number.
 pub step-closed : (s : List ℕ) (k : ℕ) (after : List ℕ) (ahead : Bool) → ahead ≡ false → StateClosed s k after
     → Stepped ahead s closes false (closing s) (reply k 0 0) after
-unfolding stepNumber stepAnswer stepAfter
-step-closed s k after ahead e o = record { answer = rw (e, o .number-is) (ap (reply (stateNumber s closes) 0) (none (eqb (stateNumber s closes) 0))); state-is = rw e (o .state-is) }
+unfolding stepNumber
+step-closed s k after ahead e o =
+    record {
+      answer = rw (e, o .number-is) (ap (reply (stateNumber s closes) 0) (none (eqb (stateNumber s closes) 0)) ∙ sym (step-answer false s closes false));
+      state-is = rw e (o .state-is ∙ sym (step-after false s closes (closing s)));
+    }
   where
     none : (b : Bool) → 0 ≡ bit (b && false)
     none true = refl
@@ -82,12 +106,15 @@ module _ (es : List Entry) (s : List ℕ) (t : Tag) where
 -- Verdict and bytes count only where the call is taken: two that agree there are one.
 step-same : (ahead : Bool) (s : List ℕ) (t : Tag) (v v′ : Bool) (x x′ : List ℕ) → (stepNumber ahead s t ≡ 0 → (v ≡ v′) × (x ≡ x′))
     → (stepAnswer ahead s t v ≡ stepAnswer ahead s t v′) × (stepAfter ahead s t x ≡ stepAfter ahead s t x′)
-unfolding stepAnswer stepAfter
+unfolding stepAnswer stepAfter numbered
 step-same ahead s t v v′ x x′ h = go (eqb k 0) refl where
   k : ℕ
   k = stepNumber ahead s t
 
-  go : (b : Bool) → eqb k 0 ≡ b → (reply k 0 (bit (b && v)) ≡ reply k 0 (bit (b && v′))) × (cond b x s ≡ cond b x′ s)
+  outcome : Bool → Answer
+  outcome b = cond b (Accepted 0) (Refused k 0)
+
+  go : (b : Bool) → eqb k 0 ≡ b → (replyOf (outcome b) (bit v) ≡ replyOf (outcome b) (bit v′)) × (byAnswer (outcome b) x s ≡ byAnswer (outcome b) x′ s)
   go true e = let q = h (eqb-true k 0 e) in (rw (q .0), q .1)
   go false e = (refl, refl)
 
@@ -99,20 +126,20 @@ module _ (rule s : List ℕ) (n : ℕ) where
       → Walked rule label (words .parent) (words .sibling) walk → walk .answer ≡ Accepted n
       → Stepped (walk .ahead) s (opens label) (bitAt (walk .word) (pred n)) (opening (walk .word) s) r after
       → (r ≡ answerOf rule s (opens label)) × (after ≡ stateAfter rule s (opens label))
-  unfolding answerOf stateAfter written openedVerdict
+  unfolding callOutcome answerOf stateAfter stepAnswer stepAfter bytesAfter openedVerdict
   opened-call label words walk r after read w a o =
       let es = entriesOf rule in
       let e : ruleAnswer rule ≡ Accepted n = sym (w .answer-is) ∙ a in
       let ahead = walked-ahead rule n label _ _ walk w a in
       let count : n ≡ length es = sym (entries-count rule ∙ ap countOf e) in
-      let q = step-same (walk .ahead) s (opens label) (bitAt (walk .word) (pred n)) (verdictOf es (stateOf s) (opens label)) (opening (walk .word) s) (written es s (opens label))
+      let q = step-same (walk .ahead) s (opens label) (bitAt (walk .word) (pred n)) (verdictOf es (stateOf s) (opens label)) (opening (walk .word) s) (bytesAfter es s (opens label))
       (λ z. let word = walked-word rule n label _ _ walk w a ∙ opened-read es s label words read (step-taken _ s (opens label) z .1) in (rw (word, count), rw word)) in
       (rw (e, ← ahead) (o .answer ∙ q .0), rw (e, ← ahead) (o .state-is ∙ q .1))
 
   -- And a closing by what the walk without a step says.
   pub closed-call : (asked : Ahead) (r : StepReply) (after : List ℕ) → Asked rule asked → asked .answer ≡ Accepted n
       → Stepped (asked .ahead) s closes false (closing s) r after → (r ≡ answerOf rule s closes) × (after ≡ stateAfter rule s closes)
-  unfolding answerOf stateAfter written
+  unfolding callOutcome answerOf stateAfter stepAnswer stepAfter bytesAfter
   closed-call asked r after w a o =
       let e : ruleAnswer rule ≡ Accepted n = sym (w .answer-is) ∙ a in
       let ahead = asked-ahead rule n asked w a in
@@ -120,7 +147,7 @@ module _ (rule s : List ℕ) (n : ℕ) where
 
 -- With a refused one a call is answered the rule reader's number and place, and the bytes stay.
 pub refused-call : (rule s : List ℕ) (t : Tag) (k p : ℕ) → ruleAnswer rule ≡ Refused k p → (reply k p 0 ≡ answerOf rule s t) × (s ≡ stateAfter rule s t)
-unfolding answerOf stateAfter
+unfolding callOutcome answerOf stateAfter
 refused-call rule s t k p e = (rw e, rw e)
 
 -- An accepted rule has an entry.

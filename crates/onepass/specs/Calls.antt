@@ -30,16 +30,16 @@ pub data Calls (rule : List ℕ) : List ℕ → List Call → List ℕ → Type 
       → Calls rule s (c ∷ cs) end
 
 -- The tags of all the calls, and of those that were answered 0.
-unfoldable pub tagsOf : List Call → List Tag
-tagsOf [] = []
-tagsOf (c ∷ cs) = c .tag ∷ tagsOf cs
+unfoldable pub tagsCalled : List Call → List Tag
+tagsCalled [] = []
+tagsCalled (c ∷ cs) = c .tag ∷ tagsCalled cs
 
 unfoldable pub taken : List Call → List Call
 taken [] = []
 taken (c ∷ cs) = cond (eqb (c .answer .number) 0) (c ∷ taken cs) (taken cs)
 
 abbrev pub takenTags : List Call → List Tag
-takenTags cs = tagsOf (taken cs)
+takenTags cs = tagsCalled (taken cs)
 
 -- A report of n elements that the report reader accepts and whose bytes begin with the bytes of some tags.
 pub record Begins (tags : List Tag) (report : List ℕ) (n : ℕ) : Type 0 where

@@ -4,11 +4,10 @@
 -- Laws: proofs/CallLaws.antt, proofs/Only.antt, proofs/Agrees.antt (demand 3). Assumes nothing.
 use Prim.Native.Nat.{ℕ}
 use mathlib.Core.Path.{_≡_}
-use mathlib.Core.Bool.{Bool, false, cond, _&&_}
+use mathlib.Core.Bool.{Bool, false, cond}
 use mathlib.Core.List.{List}
-use lib.Dec.{eqb}
+use Rattle.terms.specs.Answer.{numberOf, placeOf, byAnswer, inOrder, numbered}
 use Rattle.terms.specs.declared.answer.Answer.{Answer}
-use Rattle.terms.specs.declared.answer.Answer.the-variants.{Accepted, Refused}
 use Rattle.rules.specs.declared.rule.Entry.{Entry}
 use Rattle.rules.specs.Rule.{ruleAnswer}
 use Rattle.reports.specs.Tags.{Tag, opens, closes}
@@ -16,7 +15,7 @@ use Rattle.meaning.specs.OnePass.{State, openedVerdict}
 use Rattle.walk.specs.Walk.{looksAhead}
 use Rattle.state.specs.Promises.{startNumber, stateNumber}
 use Rattle.state.specs.State.{stateOf}
-use Rattle.state.specs.Stores.{startAfter, written}
+use Rattle.state.specs.Stores.{startAfter, bytesAfter}
 use Rattle.onepass.specs.declared.export.StepReply.{StepReply}
 use Rattle.rules.specs.Entries.{entriesOf}
 use Rattle.numbers.specs.Bits.{bit}
@@ -24,6 +23,10 @@ use Rattle.numbers.specs.Bits.{bit}
 -- An answer has a number, a place and a verdict.
 abbrev pub reply : (number place verdict : ℕ) → StepReply
 reply number place verdict = record { number = number; place = place; verdict = verdict }
+
+-- The reply of an answer: its number and place, and the verdict where it is an acceptance.
+abbrev pub replyOf : Answer → (verdict : ℕ) → StepReply
+replyOf a verdict = reply (numberOf a) (placeOf a) (byAnswer a verdict 0)
 
 -- ---- start
 
@@ -38,12 +41,15 @@ startAnswer s = reply (startNumber s) 0 0
 unfoldable pub stepNumber : (ahead : Bool) → List ℕ → Tag → ℕ
 stepNumber ahead s t = cond ahead 10 (stateNumber s t)
 
+abbrev pub stepOutcome : (ahead : Bool) → List ℕ → Tag → Answer
+stepOutcome ahead s t = numbered (stepNumber ahead s t) 0
+
 -- What a call is answered, and the bytes after it, by what verdict and bytes it has where it is taken. Refused: the bytes stay.
 unfoldable pub stepAnswer : (ahead : Bool) → List ℕ → Tag → (verdict : Bool) → StepReply
-stepAnswer ahead s t verdict = reply (stepNumber ahead s t) 0 (bit (eqb (stepNumber ahead s t) 0 && verdict))
+stepAnswer ahead s t verdict = replyOf (stepOutcome ahead s t) (bit verdict)
 
 unfoldable pub stepAfter : (ahead : Bool) → List ℕ → Tag → (taken : List ℕ) → List ℕ
-stepAfter ahead s t taken = cond (eqb (stepNumber ahead s t) 0) taken s
+stepAfter ahead s t taken = byAnswer (stepOutcome ahead s t) taken s
 
 pub record Stepped (ahead : Bool) (state : List ℕ) (t : Tag) (verdict : Bool) (taken : List ℕ) (r : StepReply) (after : List ℕ) : Type 0 where
   pub answer : r ≡ stepAnswer ahead state t verdict
@@ -54,33 +60,22 @@ abbrev pub verdictOf : List Entry → State → Tag → Bool
 verdictOf es st (opens label) = openedVerdict es st label
 verdictOf es st closes = false
 
--- So where the rule has these entries: the number, the answer, and the bytes after it.
+-- So where the rule has these entries.
 abbrev pub callNumber : List Entry → List ℕ → Tag → ℕ
 callNumber es s t = stepNumber (looksAhead es) s t
 
-abbrev pub entriesAnswer : List Entry → List ℕ → Tag → StepReply
-entriesAnswer es s t = stepAnswer (looksAhead es) s t (verdictOf es (stateOf s) t)
-
-abbrev pub entriesAfter : List Entry → List ℕ → Tag → List ℕ
-entriesAfter es s t = stepAfter (looksAhead es) s t (written es s t)
-
 -- ---- the rule's bytes first
 
--- What the rule reader refuses comes first, with its place; every other answer has place 0.
-abbrev pub ruleFirst : Answer → StepReply → StepReply
-ruleFirst (Accepted n) r = r
-ruleFirst (Refused number place) r = reply number place 0
+-- The order of all refusals of a call with a rule's bytes: what the rule reader answers, with its place, then 10, 11, 6, 7, 8.
+unfoldable pub callOutcome : (rule state : List ℕ) → Tag → Answer
+callOutcome rule s t = inOrder (ruleAnswer rule) (stepOutcome (looksAhead (entriesOf rule)) s t)
 
-abbrev pub ruleKeeps : Answer → List ℕ → List ℕ → List ℕ
-ruleKeeps (Accepted n) s after = after
-ruleKeeps (Refused number place) s after = s
-
--- What a call with a rule's bytes and a state's bytes is answered, and the state's bytes after it.
+-- What the call is answered, and the state's bytes after it.
 unfoldable pub answerOf : (rule state : List ℕ) → Tag → StepReply
-answerOf rule s t = ruleFirst (ruleAnswer rule) (entriesAnswer (entriesOf rule) s t)
+answerOf rule s t = replyOf (callOutcome rule s t) (bit (verdictOf (entriesOf rule) (stateOf s) t))
 
 unfoldable pub stateAfter : (rule state : List ℕ) → Tag → List ℕ
-stateAfter rule s t = ruleKeeps (ruleAnswer rule) s (entriesAfter (entriesOf rule) s t)
+stateAfter rule s t = byAnswer (callOutcome rule s t) (bytesAfter (entriesOf rule) s t) s
 
 -- ---- the promises
 

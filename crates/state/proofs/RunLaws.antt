@@ -58,9 +58,9 @@ places-apart a (x ∷ xs) (suc g) i (suc h) j p q n = places-apart (a + x .width
 -- ---- runs
 
 -- What the last store into number i of group g has put there; v where there is none.
-unfoldable pub told : (g i : ℕ) → List Store → ℕ → ℕ
-told g i [] v = v
-told g i (x ∷ xs) v = told g i xs (cond (eqb (x .group) g && eqb (x .index) i) (x .value) v)
+unfoldable pub lastStored : (g i : ℕ) → List Store → ℕ → ℕ
+lastStored g i [] v = v
+lastStored g i (x ∷ xs) v = lastStored g i xs (cond (eqb (x .group) g && eqb (x .index) i) (x .value) v)
 
 module _ (l : List Group) where
   -- Every store is into a number of the layout, and its value is no wider than that.
@@ -97,9 +97,9 @@ module _ (l : List Group) where
 
   -- THE LAW.
   pub read-run : (g i : ℕ) (xs : List Store) (s : List ℕ) → i < countIn l g → sizeIn l ≤ length s → Fits xs
-      → numberIn l g i (stored l xs s) ≡ told g i xs (numberIn l g i s)
-  unfolding stored told Fits
+      → numberIn l g i (stored l xs s) ≡ lastStored g i xs (numberIn l g i s)
+  unfolding stored lastStored Fits
   read-run g i [] s a room f = refl
   read-run g i (x ∷ xs) s a room f =
       read-run g i xs _ a (rw (put-length (widthIn l (x .group)) (placeIn l (x .group) (x .index)) (x .value) s) room) (f .1)
-      ∙ ap (told g i xs) (read-one g i (x .group) (x .index) (x .value) s a (f .0 .0) (f .0 .1) room)
+      ∙ ap (lastStored g i xs) (read-one g i (x .group) (x .index) (x .value) s a (f .0 .0) (f .0 .1) room)

@@ -20,7 +20,7 @@ use Rattle.state.specs.Stores.{clearedBelow, openingRun, rootAfter, clos
 use Rattle.numbers.proofs.WithBit.{with-bit-small, with-bit-at}
 use Rattle.numbers.proofs.ByteLaws.{word-small}
 use Rattle.numbers.proofs.Lists.{listed-at, listed-same, listed-all, listed-set}
-use Rattle.state.proofs.RunLaws.{told, Fits, read-run}
+use Rattle.state.proofs.RunLaws.{lastStored, Fits, read-run}
 use Rattle.numbers.specs.Bits.{bitAt, wordBits, withBit}
 use Rattle.numbers.specs.Lists.{listed}
 
@@ -94,19 +94,19 @@ zeros-bytes n i = omega (arith, zeros-at n i)
 
 module _ (xs : List Store) (s : List ℕ) (long : length s ≡ stateSize) (fits : Fits layout xs) where
   -- Number i of group g is what the last store has put there, or as it was.
-  pub run-number : (g i : ℕ) → i < countIn layout g → numberIn layout g i (stored layout xs s) ≡ told g i xs (numberIn layout g i s)
+  pub run-number : (g i : ℕ) → i < countIn layout g → numberIn layout g i (stored layout xs s) ≡ lastStored g i xs (numberIn layout g i s)
   unfolding sizeIn
   run-number g i l = read-run layout g i xs s l (omega (arith, long)) fits
 
   -- So the state is made of these.
   pub run-state : stateOf (stored layout xs s)
       ≡ record {
-        depth = told 0 0 xs (depthIn s);
-        elements = told 1 0 xs (elementsIn s);
-        rootClosed = eqb (told 2 0 xs (rootIn s)) 1;
-        presence = listed levelsMost (bitAt (told 4 0 xs (presenceIn s)));
-        openWords = listed levelsMost (λ i. told 5 i xs (wordAt 8 s (openPlace i)));
-        lastWords = listed levelsMost (λ i. told 6 i xs (wordAt 8 s (lastPlace i)));
+        depth = lastStored 0 0 xs (depthIn s);
+        elements = lastStored 1 0 xs (elementsIn s);
+        rootClosed = eqb (lastStored 2 0 xs (rootIn s)) 1;
+        presence = listed levelsMost (bitAt (lastStored 4 0 xs (presenceIn s)));
+        openWords = listed levelsMost (λ i. lastStored 5 i xs (wordAt 8 s (openPlace i)));
+        lastWords = listed levelsMost (λ i. lastStored 6 i xs (wordAt 8 s (lastPlace i)));
       }
   unfolding stateOf countIn widthIn placeFrom
   run-state =

@@ -19,10 +19,10 @@ use Rattle.meaning.specs.OnePass.{State, fault, openedWord, opened, closed, aft
 use Rattle.meaning.proofs.StepTable.{step-small}
 use Rattle.state.specs.Layout.{countIn, placeFrom, widthIn}
 use Rattle.state.specs.State.{depthIn, elementsIn, rootIn, presenceIn, openPlace, layout, stateOf, Good}
-use Rattle.state.specs.Stores.{openingRun, openedBytes, rootAfter, closingRun, closedBytes, written}
+use Rattle.state.specs.Stores.{openingRun, openedBytes, rootAfter, closingRun, closedBytes, bytesAfter}
 use Rattle.state.proofs.NumberLaws.{opens-room, closes-room}
 use Rattle.numbers.proofs.Lists.{listed-at, listed-put}
-use Rattle.state.proofs.RunLaws.{told, Fits, run-length, run-bytes}
+use Rattle.state.proofs.RunLaws.{lastStored, Fits, run-length, run-bytes}
 use Rattle.state.proofs.StateLaws.{state-same, run-number, run-state, with-bit-listed, cleared-listed, opening-fits, closing-fits}
 use Rattle.numbers.specs.Bits.{wordBits}
 
@@ -63,15 +63,15 @@ module _ (es : List Entry) (s : List ℕ) (few : length es ≤ levelsMost) (good
     opening-fit = opening-fits (depthIn s) s bytes (room .0) (elementsIn s) w (room .1) (word-room es (stateOf s) l few)
 
     -- The bytes after an opening that is taken are the opened state.
-    opened-state : stateOf (written es s (opens l)) ≡ opened es (stateOf s) l
-    unfolding stateOf opened written openedBytes told
+    opened-state : stateOf (bytesAfter es s (opens l)) ≡ opened es (stateOf s) l
+    unfolding stateOf opened bytesAfter openedBytes lastStored
     opened-state =
         run-state _ s (good .long) opening-fit
         ∙ state-same (add-one _) (add-one _) refl (cleared-listed (depthIn s) (presenceIn s)) (listed-put levelsMost _ (depthIn s) w (room .0)) refl
 
     -- They pass the test again.
-    opened-good : Good (written es s (opens l))
-    unfolding written openedBytes countIn widthIn placeFrom told
+    opened-good : Good (bytesAfter es s (opens l))
+    unfolding bytesAfter openedBytes countIn widthIn placeFrom lastStored
     opened-good =
         let at = run-number _ s (good .long) opening-fit in
         let d = at 0 0 (omega arith) in
@@ -99,8 +99,8 @@ module _ (es : List Entry) (s : List ℕ) (few : length es ≤ levelsMost) (good
     closing-fit = closing-fits (pred (depthIn s)) s bytes below
 
     -- The bytes after a closing that is taken are the closed state.
-    closed-state : stateOf (written es s closes) ≡ closed (stateOf s)
-    unfolding stateOf closed written closedBytes rootAfter told
+    closed-state : stateOf (bytesAfter es s closes) ≡ closed (stateOf s)
+    unfolding stateOf closed bytesAfter closedBytes rootAfter lastStored
     closed-state =
         let d = pred (depthIn s) in
         run-state _ s (good .long) closing-fit
@@ -108,13 +108,13 @@ module _ (es : List Entry) (s : List ℕ) (few : length es ≤ levelsMost) (good
         (rw (listed-at levelsMost (λ i. wordAt 8 s (openPlace i)) d 0 below) (listed-put levelsMost _ d _ below))
 
     -- They pass the test again.
-    closed-good : Good (written es s closes)
-    unfolding written closedBytes rootAfter countIn widthIn placeFrom told
+    closed-good : Good (bytesAfter es s closes)
+    unfolding bytesAfter closedBytes rootAfter countIn widthIn placeFrom lastStored
     closed-good =
         let k = pred (depthIn s) in
         let at = run-number _ s (good .long) closing-fit in
-        let d : depthIn (written es s closes) ≡ k = at 0 0 (omega arith) in
-        let e : elementsIn (written es s closes) ≡ elementsIn s = at 1 0 (omega arith) in
+        let d : depthIn (bytesAfter es s closes) ≡ k = at 0 0 (omega arith) in
+        let e : elementsIn (bytesAfter es s closes) ≡ elementsIn s = at 1 0 (omega arith) in
         let f = at 2 0 (omega arith) in
         record {
           long = run-length layout _ s ∙ good .long;
@@ -127,18 +127,18 @@ module _ (es : List Entry) (s : List ℕ) (few : length es ≤ levelsMost) (good
         }
 
   -- So the bytes after a tag that is taken are the state after it,
-  pub written-state : (t : Tag) → fault (stateOf s) t ≡ 0 → stateOf (written es s t) ≡ after es (stateOf s) t
+  pub written-state : (t : Tag) → fault (stateOf s) t ≡ 0 → stateOf (bytesAfter es s t) ≡ after es (stateOf s) t
   unfolding after
   written-state (opens l) z = opened-state l z
   written-state closes z = closed-state z
 
   -- pass the test again,
-  pub written-good : (t : Tag) → fault (stateOf s) t ≡ 0 → Good (written es s t)
+  pub written-good : (t : Tag) → fault (stateOf s) t ≡ 0 → Good (bytesAfter es s t)
   written-good (opens l) z = opened-good l z
   written-good closes z = closed-good z
 
   -- and are bytes again.
-  pub written-bytes : (t : Tag) → Bytes (written es s t)
-  unfolding written openedBytes closedBytes
+  pub written-bytes : (t : Tag) → Bytes (bytesAfter es s t)
+  unfolding bytesAfter openedBytes closedBytes
   written-bytes (opens l) = run-bytes layout _ s bytes
   written-bytes closes = run-bytes layout _ s bytes

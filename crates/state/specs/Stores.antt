@@ -67,6 +67,6 @@ abbrev pub closing : List ℕ → List ℕ
 closing s = closedBytes (pred (depthIn s)) s
 
 -- The bytes after a tag that is taken; an element that opens has the word of these entries.
-unfoldable pub written : List Entry → List ℕ → Tag → List ℕ
-written es s (opens label) = opening (openedWord es (stateOf s) label) s
-written es s closes = closing s
+unfoldable pub bytesAfter : List Entry → List ℕ → Tag → List ℕ
+bytesAfter es s (opens label) = opening (openedWord es (stateOf s) label) s
+bytesAfter es s closes = closing s
