@@ -15,3 +15,4 @@ pub mod Trees
 pub mod WhenReport
 pub mod ReportBytes
 pub mod Elements
+pub mod Sizes
