@@ -16,9 +16,9 @@ use Rattle.grammar.specs.Bytes.{Bytes}
 use Rattle.grammar.proofs.Elements.{labels-accepted, elements-count, levels-elements}
 use Rattle.meaning.specs.Marks.{bit, bitAt}
 use Rattle.meaning.specs.OnePass.{LooksBack}
-use Rattle.evaluate.specs.Evaluation.{Evaluated}
-use Rattle.evaluate.specs.declared.evaluate.Evaluation.{Evaluation}
-use Rattle.evaluate.proofs.Means.{word-is}
+use Rattle.marking.specs.Evaluation.{Evaluated}
+use Rattle.marking.specs.declared.report.Evaluation.{Evaluation}
+use Rattle.marking.proofs.Means.{word-is}
 use Rattle.onepass.specs.Step.{Started}
 use Rattle.onepass.specs.Calls.{Call, Calls, tagsOf}
 use Rattle.onepass.specs.declared.export.StepReply.{StepReply}

@@ -17,9 +17,9 @@ use Rattle.grammar.specs.Bytes.{Bytes}
 use Rattle.meaning.specs.Marks.{bit, bitAt, wordOf}
 use Rattle.meaning.specs.OnePass.{LooksBack}
 use Rattle.meaning.proofs.Reflect.{word-iff}
-use Rattle.evaluate.specs.Evaluation.{Evaluated}
-use Rattle.evaluate.specs.declared.evaluate.Evaluation.{Evaluation}
-use Rattle.evaluate.proofs.Means.{bit-iff}
+use Rattle.marking.specs.Evaluation.{Evaluated}
+use Rattle.marking.specs.declared.report.Evaluation.{Evaluation}
+use Rattle.marking.proofs.Means.{bit-iff}
 use Rattle.onepass.specs.Step.{Started}
 use Rattle.onepass.specs.Calls.{Call, Calls, tagsOf}
 use Rattle.onepass.specs.declared.export.StepReply.{StepReply}

@@ -1,5 +1,2 @@
--- The evaluator's promise, and what its passes are. Read Evaluation first; the others are the marking's own.
-pub mod Evaluation
-pub mod Pass
-pub mod Links
-pub mod Steps
+-- How many places the evaluator's columns have. Its promise is `Evaluated`, of marking's specs/Evaluation.antt.
+pub mod Columns

@@ -19,7 +19,7 @@ use Rattle.records.specs.declared.answer.Answer.the-variants.{Accepted, Refused
 use Rattle.grammar.proofs.WhenRule.{rule-1-iff, rule-numbers}
 use Rattle.grammar.proofs.WhenReport.{report-5-iff}
 use Rattle.meaning.specs.Marks.{selected}
-use Rattle.evaluate.specs.Evaluation.{refused, judged, evaluation, meantWords}
+use Rattle.marking.specs.Evaluation.{refused, judged, evaluation, meantWords}
 use Rattle.text.specs.Text.{refusedLine}
 use Rattle.judge.specs.Input.{ruleEnd, ruleIn, reportIn}
 use Rattle.judge.specs.Output.{room, toldAs, judgedRecord, splitRecord, recordOf}

@@ -7,30 +7,32 @@ use mathlib.Core.Bool.{Bool, cond}
 use mathlib.Core.List.{List, [], _∷_, _++_, flatten}
 use mathlib.Core.Logic.{⊎-elim}
 use lib.Dec.{eqb}
-use lib.ListN.{length}
+use lib.ListN.{length, getD}
 use lib.Seq.{length-sets}
 use Rattle.records.specs.Answer.{countOf, Accepts}
 use Rattle.records.specs.Rule.{ruleAnswer}
 use Rattle.records.specs.Report.{reportAnswer}
-use Rattle.records.specs.Tables.{entriesOf, labelsOf, levelsOf, over, ElementsTaken}
+use Rattle.records.specs.Tables.{entriesOf, labelsOf, levelsOf, over}
 use Rattle.records.specs.declared.answer.Answer.{Answer}
 use Rattle.records.specs.declared.answer.Answer.the-variants.{Accepted, Refused}
-use Rattle.records.specs.Reply.{ruleReply}
-use Rattle.records.specs.declared.export.RuleReply.{RuleReply}
 use Rattle.records.proofs.TableLaws.{over-at}
 use Rattle.records.proofs.WalkLaws.{taken-lists}
 use Rattle.grammar.proofs.WhenRule.{rule-numbers}
 use Rattle.grammar.proofs.WhenReport.{report-numbers}
 use Rattle.grammar.proofs.Entries.{entries-count, entries-some}
 use Rattle.grammar.proofs.Elements.{elements-count, levels-elements, elements-few}
-use Rattle.meaning.specs.Marks.{verdict, selected}
+use Rattle.meaning.specs.Marks.{wordOf, verdict, selected}
 use Rattle.meaning.proofs.Words.{pred-sub}
-use Rattle.evaluate.specs.Evaluation.{judged, evaluation, meantWords, Evaluated}
-use Rattle.evaluate.specs.declared.evaluate.Evaluation.{Evaluation}
-use Rattle.evaluate.proofs.Means.{counted, word-is}
+use Rattle.layout.specs.Layout.{LaidOut}
+use Rattle.layout.proofs.LayoutLaws.{room-for-any}
+use Rattle.marking.specs.Evaluation.{judged, evaluation, meantWords, Evaluated, ColumnsAfter, ReportMarked}
+use Rattle.marking.specs.declared.report.Evaluation.{Evaluation}
+use Rattle.marking.specs.declared.report.Marking.{Marking}
+use Rattle.marking.proofs.AnswerLaws.{marked-evaluated}
+use Rattle.marking.proofs.Means.{counted, word-is}
 use Rattle.text.specs.Text.{lineOf, elementLines, acceptedLines, acceptedText, headerLine, closingLine, refusedLine}
 use Rattle.text.specs.Rendered.{verdictIn, clamped, tableText, putAt, Rendered}
-use Rattle.judge.specs.Output.{room, acceptedRecord, toldAs, judgedRecord, AcceptedWith}
+use Rattle.judge.specs.Output.{room, acceptedRecord, toldAs, judgedRecord}
 use Rattle.records.specs.Limits.{elementsMost}
 
 -- ---- lines that agree
@@ -72,78 +74,79 @@ both-accepted rule report room z = go (ruleAnswer rule) (reportAnswer report) re
     go (Refused k p) b f g q =
         none k q (⊎-elim (λ t. omega arith) (⊎-elim (λ t. omega arith) (⊎-elim (λ t. omega arith) (λ t. omega arith))) (rule-numbers rule k p f))
 
--- What the evaluator has left where it gave number 0.
-pub accepted-with : (rule report marks after : List ℕ) (r : Evaluation) → Evaluated rule report marks r after → r .number ≡ 0
-    → AcceptedWith rule report after (r .elements) (r .selected)
-accepted-with rule report marks after r e z =
-    let a = both-accepted rule report (length marks) (ap (λ (x : Evaluation). x .number) (sym (e .answer)) ∙ z) in
-    let c = counted rule report marks r after e z in
-    record {
-      entries = a .0;
-      rule-taken = a .1;
-      report-taken = a .2;
-      marks-are = word-is rule report marks r after e z;
-      elements-are = c .elements-are;
-      chosen-are = c .selected-are;
-    }
+-- What is known once the marking has accepted: the words, the labels and the levels in the tables, and the counts, are the meaning's.
+pub record AcceptedWith (rule report marks labels levels : List ℕ) (entries elements chosen : ℕ) : Type 0 where
+  pub some-entry : 1 ≤ entries
+  pub entries-are : entries ≡ length (entriesOf rule)
+  pub marks-are : (k : ℕ) → k < length (levelsOf report) → getD marks k 0 ≡ wordOf (entriesOf rule) (levelsOf report) (labelsOf report) k
+  pub labels-are : (k : ℕ) → k < length (levelsOf report) → getD labels k 0 ≡ getD (labelsOf report) k 0
+  pub levels-are : (k : ℕ) → k < length (levelsOf report) → getD levels k 0 ≡ getD (levelsOf report) k 0
+  pub elements-are : elements ≡ length (levelsOf report)
+  pub chosen-are : chosen ≡ selected (length (entriesOf rule)) (meantWords rule report)
+
+few : (report : List ℕ) → length (levelsOf report) ≤ elementsMost
+few report = rw (levels-elements report) (elements-few report)
+
+-- A column that holds the values xs in its first places.
+held-at : (xs lent : List ℕ) {last : List ℕ} (k : ℕ) → last ≡ over xs lent → length xs ≤ length lent → k < length xs → getD last k 0 ≡ getD xs k 0
+held-at xs lent k e r h = ap (λ (ys : List ℕ). getD ys k 0) e ∙ over-at xs lent r k h
+
+module _ (rule report labels levels ups lefts marks : List ℕ) {r : Marking} {ls ds us fs after : List ℕ}
+    (a : length labels ≡ elementsMost) (b : length levels ≡ elementsMost) (c : length ups ≡ elementsMost) (d : length lefts ≡ elementsMost)
+    (m : ReportMarked rule report labels levels ups lefts marks r ls ds us fs after) where
+  -- Columns for 4,096 elements have room for every report.
+  pub marked-told : Evaluated rule report marks (r .answer) after
+  marked-told = marked-evaluated rule report labels levels ups lefts marks (room-for-any report elementsMost labels levels ups lefts a b c d (omega arith)) m
+
+  -- What the marking has left where it gave number 0.
+  pub accepted-with : r .answer .number ≡ 0 → AcceptedWith rule report after ls ds (r .entries) (r .answer .elements) (r .answer .selected)
+  unfolding ColumnsAfter
+  accepted-with z =
+      let e = marked-told in
+      let both = both-accepted rule report (length marks) (ap (λ (x : Evaluation). x .number) (sym (e .answer)) ∙ z) in
+      let n = counted rule report marks (r .answer) after e z in
+      let laid : LaidOut report labels levels ups lefts (reportAnswer report) ls ds us fs = rw (both .1) at (m .columns-are) in
+      let lists = taken-lists report (both .2) in
+      let kl : ls ≡ over (labelsOf report) labels = laid .read .labels-are ∙ ap (λ (xs : List ℕ). over xs labels) (lists .0) in
+      let kd : ds ≡ over (levelsOf report) levels = laid .read .levels-are ∙ ap (λ (xs : List ℕ). over xs levels) (lists .1) in
+      let same : length (labelsOf report) ≡ length (levelsOf report) = elements-count report ∙ sym (levels-elements report) in
+      record {
+        some-entry = rw (m .entries-are ∙ ap countOf (both .1)) (entries-some rule (both .0) (both .1));
+        entries-are = m .entries-are ∙ sym (entries-count rule);
+        marks-are = word-is rule report marks (r .answer) after e z;
+        labels-are = λ k h. held-at (labelsOf report) labels k kl (omega (arith, few report)) (omega arith);
+        levels-are = λ k h. held-at (levelsOf report) levels k kd (omega (arith, few report)) h;
+        elements-are = n .elements-are;
+        chosen-are = n .selected-are;
+      }
 
 -- ---- the text of the tables is the record
-
--- An accepted rule has an entry, and the reader's reply counts the entries.
-pub entries-known : (rule report marks : List ℕ) (elements chosen : ℕ) (r : RuleReply) → AcceptedWith rule report marks elements chosen
-    → r ≡ ruleReply (ruleAnswer rule) → (1 ≤ r .entries) × (r .entries ≡ length (entriesOf rule))
-entries-known rule report marks elements chosen r a e =
-    let q : r .entries ≡ countOf (ruleAnswer rule) = ap (λ (x : RuleReply). x .entries) e in
-    let k : r .entries ≡ a .entries = q ∙ ap countOf (a .rule-taken) in
-    (rw k (entries-some rule (a .entries) (a .rule-taken)), q ∙ sym (entries-count rule))
-
--- The last entry's index, as the code works it out.
-pub last-known : (rule report marks : List ℕ) (elements chosen : ℕ) (r : RuleReply) → AcceptedWith rule report marks elements chosen
-    → r ≡ ruleReply (ruleAnswer rule) → r .entries - 1 ≡ pred (length (entriesOf rule))
-last-known rule report marks elements chosen r a e =
-    ap (λ (k : ℕ). k - 1) (entries-known rule report marks elements chosen r a e .1) ∙ pred-sub (length (entriesOf rule))
 
 clamped-few : (n : ℕ) → n ≤ elementsMost → clamped n ≡ n
 unfolding clamped
 clamped-few n h = rw (le-ltb elementsMost n h)
 
-module _ (rule report marks labels levels labels₁ levels₁ : List ℕ) (elements chosen last : ℕ)
-    (a : AcceptedWith rule report marks elements chosen) {answer : Answer} (taken : ElementsTaken report labels levels answer labels₁ levels₁)
-    (labels-long : length labels ≡ elementsMost) (levels-long : length levels ≡ elementsMost)
-    (last-is : last ≡ pred (length (entriesOf rule))) where
-  labels-are : labels₁ ≡ over (labelsOf report) labels
-  labels-are = rw (taken-lists report (a .report-taken) .0) at (taken .labels-are)
-
-  levels-are : levels₁ ≡ over (levelsOf report) levels
-  levels-are = rw (taken-lists report (a .report-taken) .1) at (taken .levels-are)
-
-  few : length (levelsOf report) ≤ elementsMost
-  few = rw (levels-elements report) (elements-few report)
+module _ (rule report marks labels levels : List ℕ) (entries elements chosen : ℕ)
+    (a : AcceptedWith rule report marks labels levels entries elements chosen) where
+  last-is : entries - 1 ≡ pred (length (entriesOf rule))
+  last-is = ap (λ (k : ℕ). k - 1) (a .entries-are) ∙ pred-sub (length (entriesOf rule))
 
   line-is : (k : ℕ) → k < length (levelsOf report)
-      → lineOf labels₁ levels₁ (verdictIn marks last) k
+      → lineOf labels levels (verdictIn marks (entries - 1)) k
       ≡ lineOf (labelsOf report) (levelsOf report) (verdict (entriesOf rule) (levelsOf report) (labelsOf report)) k
   unfolding verdict
-  line-is k h =
-      rw (
-        labels-are,
-        levels-are,
-        over-at (labelsOf report) labels (omega (arith, few, elements-count report, levels-elements report)) k (omega (arith, elements-count report, levels-elements report)),
-        over-at (levelsOf report) levels (omega (arith, few)) k h,
-        a .marks-are k h,
-        last-is,
-      )
+  line-is k h = rw (a .labels-are k h, a .levels-are k h, a .marks-are k h, last-is)
 
-  pub table-is : tableText labels₁ levels₁ marks last elements chosen ≡ acceptedRecord rule report
+  table-is : tableText labels levels marks (entries - 1) elements chosen ≡ acceptedRecord rule report
   unfolding acceptedRecord
   table-is =
-      ap (λ (n : ℕ). acceptedText labels₁ levels₁ (verdictIn marks last) n chosen) (ap clamped (a .elements-are) ∙ clamped-few (length (levelsOf report)) few)
-      ∙ text-same labels₁ levels₁ (labelsOf report) (levelsOf report) (verdictIn marks last) (verdict (entriesOf rule) (levelsOf report) (labelsOf report)) (length (levelsOf report)) chosen line-is
+      ap (λ (n : ℕ). acceptedText labels levels (verdictIn marks (entries - 1)) n chosen) (ap clamped (a .elements-are) ∙ clamped-few (length (levelsOf report)) (few report))
+      ∙ text-same labels levels (labelsOf report) (levelsOf report) (verdictIn marks (entries - 1)) (verdict (entriesOf rule) (levelsOf report) (labelsOf report)) (length (levelsOf report)) chosen line-is
       ∙ ap (λ (c : ℕ). acceptedText (labelsOf report) (levelsOf report) (verdict (entriesOf rule) (levelsOf report) (labelsOf report)) (length (levelsOf report)) c) (a .chosen-are)
 
-  pub accepted-rendered : (out after : List ℕ) (r : ℕ) → Rendered (tableText labels₁ levels₁ marks last elements chosen) out r after
+  pub accepted-rendered : {out after : List ℕ} {r : ℕ} → Rendered (tableText labels levels marks (entries - 1) elements chosen) out r after
       → Rendered (acceptedRecord rule report) out r after
-  accepted-rendered out after r h = subst (λ (t : List ℕ). Rendered t out r after) table-is h
+  accepted-rendered {out} {after} {r} h = subst (λ (t : List ℕ). Rendered t out r after) table-is h
 
 -- ---- accepted or refused
 

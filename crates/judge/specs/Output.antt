@@ -1,20 +1,15 @@
 -- The record that the program prints for an input. Document 01, "The program".
 -- Shuts out: an element without its line; a verdict that is not the meaning's; a refusal with another number or place.
 -- Assumes nothing.
-use Prim.Native.Nat.{ℕ, _<_}
-use mathlib.Core.Path.{_≡_}
+use Prim.Native.Nat.{ℕ}
 use mathlib.Core.Bool.{cond}
 use mathlib.Core.List.{List}
 use lib.Dec.{eqb}
-use lib.ListN.{length, getD}
+use lib.ListN.{length}
 use Rattle.records.specs.Tables.{entriesOf, labelsOf, levelsOf}
-use Rattle.records.specs.Answer.{Accepts}
-use Rattle.records.specs.Rule.{ruleAnswer}
-use Rattle.records.specs.Report.{reportAnswer}
-use Rattle.records.specs.declared.answer.Answer.the-variants.{Accepted}
-use Rattle.meaning.specs.Marks.{wordOf, verdict, selected}
-use Rattle.evaluate.specs.Evaluation.{evaluation, meantWords}
-use Rattle.evaluate.specs.declared.evaluate.Evaluation.{Evaluation}
+use Rattle.meaning.specs.Marks.{verdict, selected}
+use Rattle.marking.specs.Evaluation.{evaluation, meantWords}
+use Rattle.marking.specs.declared.report.Evaluation.{Evaluation}
 use Rattle.text.specs.Text.{refusedLine, acceptedText}
 use Rattle.judge.specs.Input.{splitOf, ruleIn, reportIn}
 use Rattle.judge.specs.declared.split.Halves.{Halves}
@@ -44,12 +39,3 @@ splitRecord s w = cond (w .fits) (judgedRecord (ruleIn s (w .end)) (reportIn s (
 
 abbrev pub recordOf : List ℕ → List ℕ
 recordOf s = splitRecord s (splitOf s)
-
--- What is known once the evaluator has accepted: the table holds the meaning's words, and both counts are the meaning's.
-pub record AcceptedWith (rule report marks : List ℕ) (elements chosen : ℕ) : Type 0 where
-  pub entries : ℕ
-  pub rule-taken : ruleAnswer rule ≡ Accepted entries
-  pub report-taken : Accepts (reportAnswer report)
-  pub marks-are : (k : ℕ) → k < length (levelsOf report) → getD marks k 0 ≡ wordOf (entriesOf rule) (levelsOf report) (labelsOf report) k
-  pub elements-are : elements ≡ length (levelsOf report)
-  pub chosen-are : chosen ≡ selected (length (entriesOf rule)) (meantWords rule report)

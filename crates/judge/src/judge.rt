@@ -3,49 +3,42 @@ ghost use Prim.Native.Nat.{_≤_};
 ghost use lib.ListN.{length};
 ghost use Rattle.text.specs.Rendered.{Rendered};
 ghost use Rattle.judge.specs.Input.{ruleIn, reportIn};
-ghost use Rattle.judge.specs.Output.{AcceptedWith, acceptedRecord, judgedRecord, recordOf};
+ghost use Rattle.judge.specs.Output.{judgedRecord, recordOf};
 use crate::split::split;
-use evaluate::evaluate::pz_evaluate;
-use records::export::pz_read_rule;
+use marking::report::mark_report;
 use records::limits::ELEMENTS_MOST;
-use records::tables::read_elements;
 use text::put::TEXT_BYTES;
 use text::render::put_accepted;
 use text::render::put_refused;
 
-// Puts the record of an accepted rule and report, their marks being known.
-fn put_marked(
-    rule: &[u8],
-    report: &[u8],
-    marks: &[u64; ELEMENTS_MOST],
-    elements: usize,
-    selected: usize,
-    out: &mut [u8; TEXT_BYTES],
-) -> usize
-    requires { ⌜ AcceptedWith (now rule) (now report) (now marks) elements selected ⌝ }
-    ensures { λ r. ⌜ Rendered (acceptedRecord (now (rule .entry)) (now (report .entry))) (now (out .entry)) r (now (out .exit)) ⌝ }
-{
-    let mut labels = [0u16; ELEMENTS_MOST];
-    let mut levels = [0u16; ELEMENTS_MOST];
-    read_elements(report, &mut labels, &mut levels);
-    let last = pz_read_rule(rule).entries as usize - 1;
-    put_accepted(out, &labels, &levels, marks, elements, last, selected)
-}
-
-// Puts the record of a rule and a report.
+// Puts the record of a rule and a report. Both are read once, in columns that have room for any report.
 fn put_halves(rule: &[u8], report: &[u8], out: &mut [u8; TEXT_BYTES]) -> usize
     ensures { λ r. ⌜ Rendered (judgedRecord (now (rule .entry)) (now (report .entry))) (now (out .entry)) r (now (out .exit)) ⌝ }
 {
+    let mut labels = [0u16; ELEMENTS_MOST];
+    let mut levels = [0u16; ELEMENTS_MOST];
+    let mut ups = [0u16; ELEMENTS_MOST];
+    let mut lefts = [0u16; ELEMENTS_MOST];
     let mut marks = [0u64; ELEMENTS_MOST];
-    let r = pz_evaluate(rule, report, &mut marks);
+    let marked = mark_report(
+        rule,
+        report,
+        &mut labels,
+        &mut levels,
+        &mut ups,
+        &mut lefts,
+        &mut marks,
+    );
+    let r = marked.answer;
     if r.number == 0 {
-        put_marked(
-            rule,
-            report,
+        put_accepted(
+            out,
+            &labels,
+            &levels,
             &marks,
             r.elements as usize,
+            marked.entries - 1,
             r.selected as usize,
-            out,
         )
     } else {
         put_refused(out, r.number, r.place as usize)

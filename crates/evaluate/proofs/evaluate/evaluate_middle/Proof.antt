@@ -1,41 +1,45 @@
 -- `evaluate_middle`: columns of 512 places. Assumes nothing.
-use native.Mathlib.Omega.{arith}
 use Prim.Native.Nat.{ℕ}
-use mathlib.Core.Path.{refl}
+use native.Mathlib.Omega.{arith}
 use lib.ListN.{length-replicate}
+use Rattle.layout.proofs.LayoutLaws.{room-by-size}
+use Rattle.marking.proofs.AnswerLaws.{marked-evaluated}
+use Rattle.evaluate.specs.Columns.{middleColumns}
 use borrow.Author.Needs.{needs}
 use Rattle.evaluate.proofs.evaluate.evaluate_middle.Statement.{statement}
 use Rattle.evaluate.proofs.evaluate.evaluate_middle.Tie as tie
 
-slice-aggregate-evaluate-within : tie.Need-slice-aggregate-evaluate-within
-slice-aggregate-evaluate-within c = search needs
+slice-aggregate-mark-report : tie.Need-slice-aggregate-mark-report
+slice-aggregate-mark-report c = search needs
 
-slice-aggregate-evaluate-within-2 : tie.Need-slice-aggregate-evaluate-within-2
-slice-aggregate-evaluate-within-2 c = search needs
+slice-aggregate-mark-report-2 : tie.Need-slice-aggregate-mark-report-2
+slice-aggregate-mark-report-2 c = search needs
 
-slice-aggregate-evaluate-within-3 : tie.Need-slice-aggregate-evaluate-within-3
-slice-aggregate-evaluate-within-3 c = search needs
+slice-aggregate-mark-report-3 : tie.Need-slice-aggregate-mark-report-3
+slice-aggregate-mark-report-3 c = search needs
 
-slice-aggregate-evaluate-within-4 : tie.Need-slice-aggregate-evaluate-within-4
-slice-aggregate-evaluate-within-4 c = search needs
+slice-aggregate-mark-report-4 : tie.Need-slice-aggregate-mark-report-4
+slice-aggregate-mark-report-4 c = search needs
 
-evaluate-within-requires : tie.Need-evaluate-within-requires
-evaluate-within-requires c κs = let p = c .before .before .before .before .before .before .before .before .before .before .pre in (p .0, (p .1 .0, ((λ h. omega (arith, p .1 .1, length-replicate {A = ℕ} 512 0)), (refl, refl, refl))))
+mark-report-requires : tie.Need-mark-report-requires
+mark-report-requires c κs = search needs
 
 same-length : tie.Need-same-length
 same-length c = search needs
 
 returns : tie.Need-returns
-returns c = search needs
+returns c =
+    let l = length-replicate {A = ℕ} middleColumns 0 in
+    marked-evaluated _ _ _ _ _ _ _ (room-by-size _ middleColumns _ _ _ _ l l l l (omega (arith, c .before .before .before .before .before .before .before .before .before .before .before .before .before .before .before .before .pre))) (c .before .before .before .before .before .before .before .mark-report .ensures)
 
 pub evaluate-middle-spec : {M : Type 1} → statement M
 evaluate-middle-spec =
     tie.close
     (tie.spec
-    slice-aggregate-evaluate-within
-    slice-aggregate-evaluate-within-2
-    slice-aggregate-evaluate-within-3
-    slice-aggregate-evaluate-within-4
-    evaluate-within-requires
+    slice-aggregate-mark-report
+    slice-aggregate-mark-report-2
+    slice-aggregate-mark-report-3
+    slice-aggregate-mark-report-4
+    mark-report-requires
     same-length
     returns)

@@ -1,0 +1,24 @@
+// Columns: lent lists with a place for each element.
+ghost use mathlib.Core.Path.{_≡_};
+ghost use Rattle.layout.specs.Layout.{leastOf};
+
+// A number of a column, as an index.
+pub fn wide(x: u16) -> usize
+    ensures { λ r. ⌜ r ≡ x ⌝ }
+{
+    x as usize
+}
+
+// The lower of two numbers.
+pub fn least(a: usize, b: usize) -> usize
+    ensures { λ r. ⌜ r ≡ leastOf a b ⌝ }
+{
+    if a < b { a } else { b }
+}
+
+// The lowest of four.
+pub fn least_of_four(a: usize, b: usize, c: usize, d: usize) -> usize
+    ensures { λ r. ⌜ r ≡ leastOf (leastOf a b) (leastOf c d) ⌝ }
+{
+    least(least(a, b), least(c, d))
+}

@@ -1,0 +1,235 @@
+-- Laws behind the marking's answer: the order of refusals, one law for each way through, and what the filled tables are.
+-- Assumes nothing.
+use Prim.Native.Nat.{ℕ, pred, _≤_, _<_}
+use native.Mathlib.Decide.{decLt}
+use native.Mathlib.Omega.{arith}
+use borrow.Author.Tests.{lt-ltb, le-ltb, ne-eqb}
+use mathlib.Core.Path.{_≡_, refl, sym, ap, subst, _∙_}
+use mathlib.Core.Bool.{Bool, true, false, cond}
+use mathlib.Core.List.{List, [], _∷_, map}
+use mathlib.Core.Logic.{⊎-elim}
+use lib.Dec.{ltb, eqb}
+use lib.ListN.{length, take}
+use lib.Seq.{length-take-le}
+use Rattle.records.specs.Answer.{countOf, placeOf}
+use Rattle.records.specs.Rule.{ruleAnswer}
+use Rattle.records.specs.Report.{reportAnswer}
+use Rattle.records.specs.Tables.{EntriesTaken, entriesOf, labelsOf, levelsOf, over, kindOf, aOf, bOf}
+use Rattle.records.specs.declared.answer.Answer.{Answer}
+use Rattle.records.specs.declared.answer.Answer.the-variants.{Accepted, Refused}
+use Rattle.records.specs.declared.rule.Entry.{Entry}
+use Rattle.records.specs.Limits.{elementsMost, entriesMost, reportMost}
+use Rattle.records.proofs.Bounds.{rule-small}
+use Rattle.records.proofs.TableLaws.{over-kept}
+use Rattle.records.proofs.WalkLaws.{entries-taken-all}
+use Rattle.grammar.specs.Columns.{tableOf}
+use Rattle.grammar.specs.Rules.{RuleEntries}
+use Rattle.grammar.proofs.Columns.{table-of-columns}
+use Rattle.grammar.proofs.WhenRule.{rule-numbers}
+use Rattle.grammar.proofs.WhenReport.{report-numbers}
+use Rattle.grammar.proofs.Entries.{entries-count, entries-few, rule-entries}
+use Rattle.meaning.specs.Marks.{words, selected, bitAt}
+use Rattle.meaning.proofs.Words.{bit-small, words-length}
+use Rattle.layout.specs.Layout.{leastOf, roomIn, LaidOut}
+use Rattle.layout.proofs.LayoutLaws.{filled-length, least-within, within-least, laid-room, ElementsLaid, elements-laid}
+use Rattle.marking.specs.Evaluation.{accepted, refused, judged, meantWords, evaluation, written, Evaluated, roomFor, ColumnsAfter, ReportMarked, MarkedBy}
+use Rattle.marking.specs.Pass.{Marked}
+use Rattle.marking.specs.declared.report.Evaluation.{Evaluation}
+use Rattle.marking.specs.declared.report.Marking.{Marking}
+
+-- ---- the selected count is no more than there are words
+
+selected-few : (m : ℕ) (ws : List ℕ) → selected m ws ≤ length ws
+unfolding selected
+selected-few m [] = omega arith
+selected-few m (w ∷ ws) = omega (arith, bit-small (bitAt w (pred m)), selected-few m ws)
+
+-- So the count fits where the elements' does.
+pub marked-few : {es : List Entry} {ds labels marks after : List ℕ} {r : ℕ} (n : ℕ) (levels : List ℕ) → ds ≡ take n levels → n ≤ length levels
+    → Marked es ds labels marks r after → r ≤ n
+marked-few {es} {ds} {labels} n levels e h m =
+    omega (arith, m .selected-is, selected-few (length es) (words es ds labels), words-length es ds labels, ap length e, length-take-le n levels h)
+
+-- ---- refusals
+
+some-number : (k : ℕ) → (eqb k 0 ≡ false) → (A : List ℕ) → cond (eqb k 0) A [] ≡ []
+some-number k e A = rw e
+
+rule-nonzero : (rule : List ℕ) {number place : ℕ} → Refused number place ≡ ruleAnswer rule → number ≡ 0 → ⊥
+rule-nonzero rule {number} {place} a z =
+    ⊎-elim (λ e. omega arith) (⊎-elim (λ e. omega arith) (⊎-elim (λ e. omega arith) (λ e. omega arith)))
+    (rule-numbers rule number place (sym a))
+
+report-nonzero : (report : List ℕ) {number place : ℕ} → Refused number place ≡ reportAnswer report → number ≡ 0 → ⊥
+report-nonzero report {number} {place} a z =
+    ⊎-elim (λ e. omega arith) (⊎-elim (λ e. omega arith) (⊎-elim (λ e. omega arith) (λ e. omega arith)))
+    (report-numbers report number place (sym a))
+
+-- ---- once the rule has been read
+
+-- The room that the code works out, by the lengths of the columns in which the report is laid out.
+pub room-for-is : {report labels levels ups lefts : List ℕ} (marks : List ℕ) {r : Answer} {ls ds us fs : List ℕ}
+    → LaidOut report labels levels ups lefts r ls ds us fs → (columns room : ℕ) → columns ≡ roomIn ls ds us fs
+    → room ≡ leastOf columns (length marks) → room ≡ roomFor labels levels ups lefts marks
+unfolding roomFor
+room-for-is marks laid columns room p q = q ∙ ap (λ (k : ℕ). leastOf k (length marks)) (p ∙ laid-room laid)
+
+-- All columns have room for what there is room for, and so has the buffer.
+pub room-for-within : (labels levels ups lefts marks : List ℕ) (n room : ℕ) → room ≡ roomFor labels levels ups lefts marks → n ≤ room
+    → (n ≤ roomIn labels levels ups lefts) × (n ≤ length marks)
+unfolding roomFor
+room-for-within labels levels ups lefts marks n room e h =
+    least-within n (roomIn labels levels ups lefts) (length marks) (omega arith)
+
+-- What the columns hold of an accepted report where there is room.
+pub held : {report labels levels ups lefts : List ℕ} (marks : List ℕ) {r : Answer} {n : ℕ} {ls ds us fs : List ℕ}
+    → LaidOut report labels levels ups lefts r ls ds us fs → r ≡ Accepted n → (room : ℕ) → room ≡ roomFor labels levels ups lefts marks
+    → n ≤ room → ElementsLaid report n ls ds us fs
+held {labels = labels} {levels = levels} {ups = ups} {lefts = lefts} marks {n = n} laid e room is h =
+    elements-laid laid e (room-for-within labels levels ups lefts marks n room is h .0)
+
+module _ (es : List Entry) {report labels levels ups lefts : List ℕ} (marks : List ℕ) {r : Answer} {ls ds us fs : List ℕ}
+    (laid : LaidOut report labels levels ups lefts r ls ds us fs) where
+  laid-answered : LaidOut report labels levels ups lefts (reportAnswer report) ls ds us fs
+  laid-answered = subst (λ (x : Answer). LaidOut report labels levels ups lefts x ls ds us fs) (laid .read .answer) laid
+
+  -- The report is refused.
+  pub by-refused : {number place : ℕ} → r ≡ Refused number place
+      → MarkedBy es report labels levels ups lefts marks (refused number place) ls ds us fs marks
+  unfolding judged
+  by-refused {number} {place} e =
+      let a : Refused number place ≡ reportAnswer report = sym e ∙ laid .read .answer in
+      record {
+        answer = rw (← a);
+        marks-are = over-kept _ marks (some-number number (ne-eqb number 0 (report-nonzero report a)) _);
+        laid-out = laid-answered;
+      }
+
+  module _ {n : ℕ} (e : r ≡ Accepted n) (room : ℕ) (is : room ≡ roomFor labels levels ups lefts marks) where
+    accepts : Accepted n ≡ reportAnswer report
+    accepts = sym e ∙ laid .read .answer
+
+    -- The report is accepted, and there is no room for its elements.
+    pub by-short : room < n → MarkedBy es report labels levels ups lefts marks (refused 9 0) ls ds us fs marks
+    unfolding judged
+    by-short h =
+        record {
+          answer = rw (← accepts, lt-ltb (roomFor labels levels ups lefts marks) n (omega arith));
+          marks-are = over-kept _ marks refl;
+          laid-out = laid-answered;
+        }
+
+    -- The report is accepted and its elements are marked.
+    pub by-room : {k : ℕ} {after : List ℕ} → n ≤ room → Marked es (take n ds) (take n ls) marks k after
+        → MarkedBy es report labels levels ups lefts marks (accepted n k) ls ds us fs after
+    unfolding judged
+    by-room {k} {after} h m =
+        let o = held marks laid e room is h in
+        let q : Marked es (levelsOf report) (labelsOf report) marks k after = rw (o .levels-read, o .labels-read) at m in
+        record {
+          answer = rw (← accepts, le-ltb (roomFor labels levels ups lefts marks) n (omega arith)) (ap (accepted n) (q .selected-is));
+          marks-are = q .marks-are;
+          laid-out = laid-answered;
+        }
+
+-- ---- the whole
+
+module _ (rule report labels levels ups lefts marks : List ℕ) where
+  -- The rule is refused.
+  pub marked-refused : {number place : ℕ} → Refused number place ≡ ruleAnswer rule
+      → ReportMarked rule report labels levels ups lefts marks (record { answer = refused number place; entries = 0 }) labels levels ups lefts marks
+  unfolding evaluation written judged ColumnsAfter
+  marked-refused {number} {place} a =
+      record {
+        answer-is = rw (← a);
+        entries-are = ap countOf a;
+        marks-are = rw (← a) (over-kept _ marks (some-number number (ne-eqb number 0 (rule-nonzero rule a)) _));
+        columns-are = rw (← a) (refl, refl, refl, refl);
+      }
+
+  -- The rule is accepted.
+  pub marked-accepted : {n : ℕ} {r : Evaluation} {ls ds us fs after : List ℕ} (es : List Entry) → Accepted n ≡ ruleAnswer rule → es ≡ entriesOf rule
+      → MarkedBy es report labels levels ups lefts marks r ls ds us fs after
+      → ReportMarked rule report labels levels ups lefts marks (record { answer = r; entries = n }) ls ds us fs after
+  unfolding evaluation written meantWords ColumnsAfter
+  marked-accepted {n} {r} {ls} {ds} {us} {fs} {after} es a e m =
+      record {
+        answer-is = is;
+        entries-are = ap countOf a;
+        marks-are = m .marks-are ∙ rw (is, e) refl;
+        columns-are = rw (← a) (m .laid-out);
+      }
+    where
+      is : r ≡ evaluation rule report (roomFor labels levels ups lefts marks)
+      is = m .answer ∙ rw (e, entries-count rule, ← a)
+
+-- ---- columns that have room for the report
+
+-- Where the columns have room for the elements of an accepted report, they play no part in the answer.
+evaluation-room : (rule report : List ℕ) (columns room : ℕ) → ((n : ℕ) → reportAnswer report ≡ Accepted n → n ≤ columns)
+    → evaluation rule report (leastOf columns room) ≡ evaluation rule report room
+unfolding evaluation judged
+evaluation-room rule report columns room enough =
+    go (ruleAnswer rule) (reportAnswer report) refl (selected (length (entriesOf rule)) (meantWords rule report))
+  where
+    short : (n : ℕ) → n ≤ columns → ltb (leastOf columns room) n ≡ ltb room n
+    short n h =
+        elim (decLt room n) [
+          | yes l ↦ lt-ltb (leastOf columns room) n (omega (arith, least-within (leastOf columns room) columns room (omega arith) .1)) ∙ sym (lt-ltb room n l)
+          | no l ↦ le-ltb (leastOf columns room) n (within-least n columns room h (omega arith)) ∙ sym (le-ltb room n (omega arith))
+        ]
+
+    go : (a b : Answer) → reportAnswer report ≡ b → (count : ℕ) → judged a b (leastOf columns room) count ≡ judged a b room count
+    go (Refused k p) b e count = refl
+    go (Accepted m) (Refused k p) e count = refl
+    go (Accepted m) (Accepted n) e count = ap (λ (s : Bool). cond s (refused 9 0) (accepted n count)) (short n (enough n e))
+
+pub marked-evaluated : (rule report labels levels ups lefts marks : List ℕ) {r : Marking} {ls ds us fs after : List ℕ}
+    → ((n : ℕ) → reportAnswer report ≡ Accepted n → n ≤ roomIn labels levels ups lefts)
+    → ReportMarked rule report labels levels ups lefts marks r ls ds us fs after → Evaluated rule report marks (r .answer) after
+unfolding written roomFor
+marked-evaluated rule report labels levels ups lefts marks enough m =
+    let e = evaluation-room rule report (roomIn labels levels ups lefts) (length marks) enough in
+    record {
+      answer = m .answer-is ∙ e;
+      marks-are = m .marks-are ∙ ap (λ (x : Evaluation). over (cond (eqb (x .number) 0) (meantWords rule report) []) marks) e;
+    }
+
+-- ---- what the filled tables are
+
+-- The columns of an accepted rule: its n entries.
+pub record EntriesRead (rule : List ℕ) (n : ℕ) (ks fs ss : List ℕ) : Type 0 where
+  pub is : Accepted n ≡ ruleAnswer rule
+  pub kinds-room : n ≤ length ks
+  pub firsts-room : n ≤ length fs
+  pub seconds-room : n ≤ length ss
+  pub table-read : tableOf n ks fs ss ≡ entriesOf rule
+  pub table-rule : RuleEntries (tableOf n ks fs ss)
+
+pub entries-read : (rule kinds firsts seconds : List ℕ) {r : Answer} {n : ℕ} {ks fs ss : List ℕ}
+    → length kinds ≡ entriesMost → length firsts ≡ entriesMost → length seconds ≡ entriesMost
+    → EntriesTaken rule kinds firsts seconds r ks fs ss → r ≡ Accepted n → EntriesRead rule n ks fs ss
+entries-read rule kinds firsts seconds {r} {n} {ks} {fs} {ss} a b c f e =
+    let is : Accepted n ≡ ruleAnswer rule = sym e ∙ f .answer in
+    let all = entries-taken-all rule n is in
+    let kinds-are : ks ≡ over (map kindOf (entriesOf rule)) kinds = rw all at (f .kinds-are) in
+    let firsts-are : fs ≡ over (map aOf (entriesOf rule)) firsts = rw all at (f .firsts-are) in
+    let seconds-are : ss ≡ over (map bOf (entriesOf rule)) seconds = rw all at (f .seconds-are) in
+    let le : length (entriesOf rule) ≡ n = entries-count rule ∙ ap countOf (sym is) in
+    let few : n ≤ entriesMost = omega (arith, entries-few rule) in
+    let whole : RuleEntries (entriesOf rule) = rule-entries rule n (sym is) in
+    let table : tableOf n ks fs ss ≡ entriesOf rule =
+    rw (kinds-are, firsts-are, seconds-are, ← le)
+    (table-of-columns (entriesOf rule) kinds firsts seconds (omega arith) (omega arith) (omega arith)) in
+    record {
+      is = is;
+      kinds-room = omega (arith, filled-length (map kindOf (entriesOf rule)) kinds entriesMost kinds-are a);
+      firsts-room = omega (arith, filled-length (map aOf (entriesOf rule)) firsts entriesMost firsts-are b);
+      seconds-room = omega (arith, filled-length (map bOf (entriesOf rule)) seconds entriesMost seconds-are c);
+      table-read = table;
+      table-rule = subst RuleEntries (sym table) whole;
+    }
+
+-- The place of a rule's refusal fits where a report's does.
+pub rule-place : (rule : List ℕ) → placeOf (ruleAnswer rule) ≤ reportMost
+rule-place rule = omega (arith, rule-small rule .place-in)

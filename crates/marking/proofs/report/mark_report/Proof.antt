@@ -1,0 +1,80 @@
+-- `mark_report`: the rule's refusal first, then what `mark_by_entries` says of its entries. Assumes nothing.
+use Prim.Native.Nat.{ℕ}
+use mathlib.Core.Path.{ap, sym, _∙_}
+use lib.ListN.{length-replicate}
+use Rattle.records.specs.Answer.{placeOf}
+use Rattle.records.specs.Limits.{entriesMost}
+use Rattle.layout.proofs.LayoutLaws.{filled-length}
+use Rattle.marking.proofs.AnswerLaws.{rule-place, entries-read, marked-refused, marked-accepted}
+use borrow.Author.Needs.{needs}
+use Rattle.marking.proofs.report.mark_report.Statement.{statement}
+use Rattle.marking.proofs.report.mark_report.Tie as tie
+
+read-entries-requires : tie.Need-read-entries-requires
+read-entries-requires c κs = search needs
+
+enum-known-entries : tie.Need-enum-known-entries
+enum-known-entries c = search needs
+
+slice-aggregate-mark-by-entries : tie.Need-slice-aggregate-mark-by-entries
+slice-aggregate-mark-by-entries c = filled-length _ _ entriesMost (c .before .before .before .before .read-entries .ensures .kinds-are) (length-replicate {A = ℕ} entriesMost 0)
+
+slice-aggregate-mark-by-entries-2 : tie.Need-slice-aggregate-mark-by-entries-2
+slice-aggregate-mark-by-entries-2 c = filled-length _ _ entriesMost (c .before .before .before .before .before .read-entries .ensures .firsts-are) (length-replicate {A = ℕ} entriesMost 0)
+
+slice-aggregate-mark-by-entries-3 : tie.Need-slice-aggregate-mark-by-entries-3
+slice-aggregate-mark-by-entries-3 c = filled-length _ _ entriesMost (c .before .before .before .before .before .before .read-entries .ensures .seconds-are) (length-replicate {A = ℕ} entriesMost 0)
+
+mark-by-entries-requires : tie.Need-mark-by-entries-requires
+mark-by-entries-requires c κs =
+    let e = entries-read _ _ _ _ (length-replicate {A = ℕ} entriesMost 0) (length-replicate {A = ℕ} entriesMost 0) (length-replicate {A = ℕ} entriesMost 0) (c .before .before .before .before .before .before .before .before .before .before .before .read-entries .ensures) (c .before .before .before .before .before .before .before .before .before .entries .given .1) in
+    (e .table-rule, (e .kinds-room, e .firsts-room, e .seconds-room))
+
+enum-known-number : tie.Need-enum-known-number
+enum-known-number c = search needs
+
+refuse-requires : tie.Need-refuse-requires
+refuse-requires c κs = rw (ap placeOf (sym (c .before .number .given .1) ∙ c .before .before .before .read-entries .ensures .answer)) (rule-place _)
+
+same-length : tie.Need-same-length
+same-length c = search needs
+
+same-length-2 : tie.Need-same-length-2
+same-length-2 c = search needs
+
+same-length-3 : tie.Need-same-length-3
+same-length-3 c = search needs
+
+same-length-4 : tie.Need-same-length-4
+same-length-4 c = search needs
+
+same-length-5 : tie.Need-same-length-5
+same-length-5 c = search needs
+
+returns : tie.Need-returns
+returns c =
+    let e = entries-read _ _ _ _ (length-replicate {A = ℕ} entriesMost 0) (length-replicate {A = ℕ} entriesMost 0) (length-replicate {A = ℕ} entriesMost 0) (c .before .before .before .before .before .before .before .before .before .before .before .before .before .before .before .before .before .before .before .before .before .before .read-entries .ensures) (c .before .before .before .before .before .before .before .before .before .before .before .before .before .before .before .before .before .before .before .before .entries .given .1) in
+    marked-accepted _ _ _ _ _ _ _ _ (e .is) (e .table-read) (c .before .before .before .before .before .before .before .before .before .before .mark-by-entries .ensures)
+
+returns-2 : tie.Need-returns-2
+returns-2 c = rw (c .refuse .ensures) (marked-refused _ _ _ _ _ _ _ (sym (c .before .before .number .given .1) ∙ c .before .before .before .before .read-entries .ensures .answer))
+
+pub mark-report-spec : {M : Type 1} → statement M
+mark-report-spec =
+    tie.close
+    (tie.spec
+    read-entries-requires
+    enum-known-entries
+    slice-aggregate-mark-by-entries
+    slice-aggregate-mark-by-entries-2
+    slice-aggregate-mark-by-entries-3
+    mark-by-entries-requires
+    enum-known-number
+    refuse-requires
+    same-length
+    same-length-2
+    same-length-3
+    same-length-4
+    same-length-5
+    returns
+    returns-2)

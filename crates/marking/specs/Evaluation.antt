@@ -1,0 +1,81 @@
+-- Marking a report: number, place, elements and selected, and the mark buffer afterwards. Document 01, "Numbers given back", with
+-- its order, and demand 2.
+-- Shuts out: a refusal that writes; 9 before 6; an invented count; a word past the last element written.
+-- Laws: proofs/Means.antt (what the promise comes to), proofs/AnswerLaws.antt, proofs/Only.antt. Assumes nothing.
+use Prim.Native.Nat.{ℕ}
+use mathlib.Core.Path.{_≡_}
+use mathlib.Core.Bool.{cond}
+use mathlib.Core.List.{List, []}
+use lib.Dec.{ltb, eqb}
+use lib.ListN.{length}
+use Rattle.records.specs.Answer.{countOf}
+use Rattle.records.specs.Rule.{ruleAnswer}
+use Rattle.records.specs.Report.{reportAnswer}
+use Rattle.records.specs.Tables.{entriesOf, labelsOf, levelsOf, over}
+use Rattle.records.specs.declared.answer.Answer.{Answer}
+use Rattle.records.specs.declared.rule.Entry.{Entry}
+use Rattle.records.specs.declared.answer.Answer.the-variants.{Accepted, Refused}
+use Rattle.meaning.specs.Marks.{words, selected}
+use Rattle.layout.specs.Layout.{leastOf, roomIn, LaidOut}
+use Rattle.marking.specs.declared.report.Evaluation.{Evaluation}
+use Rattle.marking.specs.declared.report.Marking.{Marking}
+
+-- Accepted: number 0, place 0, how many elements there are and how many are selected.
+abbrev pub accepted : ℕ → ℕ → Evaluation
+accepted elements selected = record { number = 0; place = 0; elements = elements; selected = selected }
+
+-- Refused: the number and the place; elements and selected are 0.
+abbrev pub refused : ℕ → ℕ → Evaluation
+refused number place = record { number = number; place = place; elements = 0; selected = 0 }
+
+-- The order: what the rule reader answers, then what the report reader answers, then 9 where there is room for fewer elements than
+-- there are. `count` is the selected count of an accepted rule and report.
+unfoldable pub judged : Answer → Answer → (room count : ℕ) → Evaluation
+judged (Refused number place) report room count = refused number place
+judged (Accepted entries) (Refused number place) room count = refused number place
+judged (Accepted entries) (Accepted elements) room count = cond (ltb room elements) (refused 9 0) (accepted elements count)
+
+module _ (rule report : List ℕ) where
+  -- The words that the meaning gives the elements, in order.
+  unfoldable pub meantWords : List ℕ
+  meantWords = words (entriesOf rule) (levelsOf report) (labelsOf report)
+
+  -- What is answered, there being room for so many elements.
+  unfoldable pub evaluation : ℕ → Evaluation
+  evaluation room = judged (ruleAnswer rule) (reportAnswer report) room (selected (length (entriesOf rule)) meantWords)
+
+  -- What is written: the meaning's words where rule and report are accepted and there is room, nothing where they are refused.
+  unfoldable pub written : ℕ → List ℕ
+  written room = cond (eqb (evaluation room .number) 0) meantWords []
+
+-- What a caller promises whose columns have room for every report, so that the buffer's words alone are counted: the answer, and the
+-- buffer with what is written in its first places and the rest as it was.
+pub record Evaluated (rule report marks : List ℕ) (r : Evaluation) (marks′ : List ℕ) : Type 0 where
+  pub answer : r ≡ evaluation rule report (length marks)
+  pub marks-are : marks′ ≡ over (written rule report (length marks)) marks
+
+-- ---- with lent columns of any length
+
+-- For how many elements the four columns and the buffer have room.
+unfoldable pub roomFor : (labels levels ups lefts marks : List ℕ) → ℕ
+roomFor labels levels ups lefts marks = leastOf (roomIn labels levels ups lefts) (length marks)
+
+-- What is left in the columns: a refused rule leaves them as they were, and with an accepted one the report is laid out in them.
+unfoldable pub ColumnsAfter : Answer → (report labels levels ups lefts labels′ levels′ ups′ lefts′ : List ℕ) → Type 0
+ColumnsAfter (Refused number place) report labels levels ups lefts labels′ levels′ ups′ lefts′ =
+    (labels′ ≡ labels) × (levels′ ≡ levels) × (ups′ ≡ ups) × (lefts′ ≡ lefts)
+ColumnsAfter (Accepted n) report labels levels ups lefts labels′ levels′ ups′ lefts′ =
+    LaidOut report labels levels ups lefts (reportAnswer report) labels′ levels′ ups′ lefts′
+
+-- The promise: the answer, the rule's entries counted, the buffer with what is written in its first places, and the columns.
+pub record ReportMarked (rule report labels levels ups lefts marks : List ℕ) (r : Marking) (labels′ levels′ ups′ lefts′ marks′ : List ℕ) : Type 0 where
+  pub answer-is : r .answer ≡ evaluation rule report (roomFor labels levels ups lefts marks)
+  pub entries-are : r .entries ≡ countOf (ruleAnswer rule)
+  pub marks-are : marks′ ≡ over (written rule report (roomFor labels levels ups lefts marks)) marks
+  pub columns-are : ColumnsAfter (ruleAnswer rule) report labels levels ups lefts labels′ levels′ ups′ lefts′
+
+-- The same once the rule has been read: its entries are es.
+pub record MarkedBy (es : List Entry) (report labels levels ups lefts marks : List ℕ) (r : Evaluation) (labels′ levels′ ups′ lefts′ marks′ : List ℕ) : Type 0 where
+  pub answer : r ≡ judged (Accepted (length es)) (reportAnswer report) (roomFor labels levels ups lefts marks) (selected (length es) (words es (levelsOf report) (labelsOf report)))
+  pub marks-are : marks′ ≡ over (cond (eqb (r .number) 0) (words es (levelsOf report) (labelsOf report)) []) marks
+  pub laid-out : LaidOut report labels levels ups lefts (reportAnswer report) labels′ levels′ ups′ lefts′

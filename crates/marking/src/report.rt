@@ -1,0 +1,130 @@
+// From bytes to marks: the rule's entries, the report laid out, the marking, and the answer.
+ghost use mathlib.Core.Path.{_≡_};
+ghost use Prim.Native.Nat.{_≤_};
+ghost use lib.ListN.{length};
+ghost use Rattle.grammar.specs.Columns.{tableOf};
+ghost use Rattle.grammar.specs.Rules.{RuleEntries};
+ghost use Rattle.records.specs.Limits.{reportMost};
+ghost use Rattle.marking.specs.Evaluation.{refused, MarkedBy, ReportMarked};
+use crate::elements::mark_elements;
+use layout::columns::least;
+use layout::columns::least_of_four;
+use layout::layout::lay_out;
+use records::answer::Answer;
+use records::limits::ENTRIES_MOST;
+use records::tables::read_entries;
+
+// What a whole report is answered: document 01's number, the place, how many elements there are and
+// how many of them are selected. Refused: elements and selected are 0.
+#[repr(C)]
+pub struct Evaluation {
+    pub number: u32,
+    pub place: u32,
+    pub elements: u32,
+    pub selected: u32,
+}
+
+// The answer, and how many entries the rule has; 0 where it is refused.
+pub struct Marking {
+    pub answer: Evaluation,
+    pub entries: usize,
+}
+
+// A refusal.
+fn refuse(number: u32, place: usize) -> Evaluation
+    requires { ⌜ place ≤ reportMost ⌝ }
+    ensures { λ r. ⌜ r ≡ refused number place ⌝ }
+{
+    Evaluation {
+        number: number,
+        place: place as u32,
+        elements: 0,
+        selected: 0,
+    }
+}
+
+// Marks a report's elements with an accepted rule's entries.
+fn mark_by_entries(
+    entries: usize,
+    kinds: &[u16],
+    firsts: &[u16],
+    seconds: &[u16],
+    report: &[u8],
+    labels: &mut [u16],
+    levels: &mut [u16],
+    ups: &mut [u16],
+    lefts: &mut [u16],
+    marks: &mut [u64],
+) -> Evaluation
+    requires { ⌜ RuleEntries (tableOf entries (now kinds) (now firsts) (now seconds)) ⌝ }
+    requires { ⌜ (entries ≤ length (now kinds)) × (entries ≤ length (now firsts)) × (entries ≤ length (now seconds)) ⌝ }
+    ensures { λ r. ⌜ MarkedBy (tableOf entries (now (kinds .entry)) (now (firsts .entry)) (now (seconds .entry))) (now (report .entry)) (now (labels .entry)) (now (levels .entry)) (now (ups .entry)) (now (lefts .entry)) (now (marks .entry)) r (now (labels .exit)) (now (levels .exit)) (now (ups .exit)) (now (lefts .exit)) (now (marks .exit)) ⌝ }
+{
+    match lay_out(report, labels, levels, ups, lefts) {
+        Answer::Accepted(n) => {
+            let columns = least_of_four(labels.len(), levels.len(), ups.len(), lefts.len());
+            if least(columns, marks.len()) < n {
+                return refuse(9, 0);
+            }
+            let selected = mark_elements(
+                entries,
+                kinds,
+                firsts,
+                seconds,
+                n,
+                labels,
+                levels,
+                ups,
+                lefts,
+                marks,
+            );
+            Evaluation {
+                number: 0,
+                place: 0,
+                elements: n as u32,
+                selected: selected as u32,
+            }
+        }
+        Answer::Refused(number, place) => refuse(number, place),
+    }
+}
+
+// Reads a rule and a report, once each, lays the report out in the lent columns, and writes a word for
+// each element into the first words of the lent buffer; 9 where a column or the buffer has no room for
+// all elements.
+pub fn mark_report(
+    rule: &[u8],
+    report: &[u8],
+    labels: &mut [u16],
+    levels: &mut [u16],
+    ups: &mut [u16],
+    lefts: &mut [u16],
+    marks: &mut [u64],
+) -> Marking
+    ensures { λ r. ⌜ ReportMarked (now (rule .entry)) (now (report .entry)) (now (labels .entry)) (now (levels .entry)) (now (ups .entry)) (now (lefts .entry)) (now (marks .entry)) r (now (labels .exit)) (now (levels .exit)) (now (ups .exit)) (now (lefts .exit)) (now (marks .exit)) ⌝ }
+{
+    let mut kinds = [0u16; ENTRIES_MOST];
+    let mut firsts = [0u16; ENTRIES_MOST];
+    let mut seconds = [0u16; ENTRIES_MOST];
+    match read_entries(rule, &mut kinds, &mut firsts, &mut seconds) {
+        Answer::Accepted(entries) => {
+            let answer = mark_by_entries(
+                entries,
+                &kinds,
+                &firsts,
+                &seconds,
+                report,
+                labels,
+                levels,
+                ups,
+                lefts,
+                marks,
+            );
+            Marking { answer, entries }
+        }
+        Answer::Refused(number, place) => {
+            let answer = refuse(number, place);
+            Marking { answer, entries: 0 }
+        }
+    }
+}
