@@ -6,15 +6,13 @@ use native.Mathlib.Omega.{arith}
 use mathlib.Core.Path.{_≡_, refl, sym, ap, _∙_}
 use mathlib.Core.List.{List, _∷_, _++_}
 use lib.ListN.{length, getD}
-use Rattle.records.specs.Report.{reportAnswer, tagsOf as tagsIn}
-use Rattle.records.specs.Rule.{ruleAnswer}
-use Rattle.records.specs.Tables.{entriesOf, labelsOf, levelsOf}
-use Rattle.records.specs.Tags.{opens, labels, opened}
-use Rattle.records.specs.declared.answer.Answer.the-variants.{Accepted}
-use Rattle.records.proofs.TagLaws.{opened-append}
+use Rattle.reports.specs.Report.{reportAnswer, tagsOf as tagsIn}
+use Rattle.rules.specs.Rule.{ruleAnswer}
+use Rattle.reports.specs.Tags.{opens, labels, openedCount}
+use Rattle.terms.specs.declared.answer.Answer.the-variants.{Accepted}
+use Rattle.reports.proofs.TagLaws.{opened-append}
 use Rattle.grammar.specs.Bytes.{Bytes}
 use Rattle.grammar.proofs.Elements.{labels-accepted, elements-count, levels-elements}
-use Rattle.meaning.specs.Marks.{bit, bitAt}
 use Rattle.meaning.specs.OnePass.{LooksBack}
 use Rattle.marking.specs.Evaluation.{Evaluated}
 use Rattle.marking.specs.declared.report.Evaluation.{Evaluation}
@@ -23,15 +21,18 @@ use Rattle.onepass.specs.Step.{Started}
 use Rattle.onepass.specs.Calls.{Call, Calls, tagsOf}
 use Rattle.onepass.specs.declared.export.StepReply.{StepReply}
 use Rattle.onepass.proofs.Agrees.{tags-append, report-fed}
+use Rattle.rules.specs.Entries.{entriesOf}
+use Rattle.reports.specs.Elements.{labelsOf, levelsOf}
+use Rattle.numbers.specs.Bits.{bit, bitAt}
 
 -- An opening among an accepted report's tags is one of its elements.
 pub opening-there : (report : List ℕ) (n : ℕ) → reportAnswer report ≡ Accepted n → (before : List Call) (label : ℕ) (r : StepReply) (later : List Call)
-    → tagsOf (before ++ (record { tag = opens label; answer = r } ∷ later)) ≡ tagsIn report → opened (tagsOf before) < length (levelsOf report)
+    → tagsOf (before ++ (record { tag = opens label; answer = r } ∷ later)) ≡ tagsIn report → openedCount (tagsOf before) < length (levelsOf report)
 unfolding tagsOf labels
 opening-there report n report-taken before label r later fed =
-    let all : opened (tagsIn report) ≡ opened (tagsOf before) + opened (opens label ∷ tagsOf later) =
-    ap opened (sym fed ∙ tags-append before (record { tag = opens label; answer = r } ∷ later)) ∙ opened-append (tagsOf before) (opens label ∷ tagsOf later) in
-    let count : length (labelsOf report) ≡ opened (tagsIn report) = ap length (labels-accepted report n report-taken) in
+    let all : openedCount (tagsIn report) ≡ openedCount (tagsOf before) + openedCount (opens label ∷ tagsOf later) =
+    ap openedCount (sym fed ∙ tags-append before (record { tag = opens label; answer = r } ∷ later)) ∙ opened-append (tagsOf before) (opens label ∷ tagsOf later) in
+    let count : length (labelsOf report) ≡ openedCount (tagsIn report) = ap length (labels-accepted report n report-taken) in
     omega (arith, all, count, elements-count report, levels-elements report)
 
 module _ (rule report : List ℕ) (m n : ℕ) (rule-taken : ruleAnswer rule ≡ Accepted m) (back : LooksBack (entriesOf rule))
@@ -43,8 +44,8 @@ module _ (rule report : List ℕ) (m n : ℕ) (rule-taken : ruleAnswer rule ≡ 
       → (before : List Call) (label : ℕ) (r : StepReply) (later : List Call)
       → Calls rule start (before ++ (record { tag = opens label; answer = r } ∷ later)) end
       → tagsOf (before ++ (record { tag = opens label; answer = r } ∷ later)) ≡ tagsIn report
-      → (r .number ≡ 0) × (r .verdict ≡ bit (bitAt (getD after (opened (tagsOf before)) 0) (pred (length (entriesOf rule)))))
+      → (r .number ≡ 0) × (r .verdict ≡ bit (bitAt (getD after (openedCount (tagsOf before)) 0) (pred (length (entriesOf rule)))))
   engines-agree marks after e evaluated zero given start end r₀ started begun before label r later calls fed =
       let q = report-fed rule m rule-taken back given start r₀ started begun report n bytes report-taken
       (before ++ (record { tag = opens label; answer = r } ∷ later)) end calls fed before label r later refl in
-      (q .0, q .1 ∙ rw (word-is rule report marks e after evaluated zero (opened (tagsOf before)) (opening-there report n report-taken before label r later fed)))
+      (q .0, q .1 ∙ rw (word-is rule report marks e after evaluated zero (openedCount (tagsOf before)) (opening-there report n report-taken before label r later fed)))

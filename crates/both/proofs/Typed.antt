@@ -9,12 +9,11 @@ use mathlib.Core.List.{List, _∷_, _++_}
 use mathlib.Core.Logic.{_↔_}
 use lib.ListN.{length, getD, take, drop}
 use lib.Seq.{take-append-seam}
-use Rattle.records.specs.Report.{reportAnswer, tagsOf as tagsIn}
-use Rattle.records.specs.Tables.{entriesOf, labelsOf, levelsOf}
-use Rattle.records.specs.Tags.{opens, opened}
-use Rattle.records.specs.declared.answer.Answer.the-variants.{Accepted}
+use Rattle.reports.specs.Report.{reportAnswer, tagsOf as tagsIn}
+use Rattle.reports.specs.Tags.{opens, openedCount}
+use Rattle.terms.specs.declared.answer.Answer.the-variants.{Accepted}
 use Rattle.grammar.specs.Bytes.{Bytes}
-use Rattle.meaning.specs.Marks.{bit, bitAt, wordOf}
+use Rattle.meaning.specs.Marks.{wordOf}
 use Rattle.meaning.specs.OnePass.{LooksBack}
 use Rattle.meaning.proofs.Reflect.{word-iff}
 use Rattle.marking.specs.Evaluation.{Evaluated}
@@ -24,11 +23,11 @@ use Rattle.onepass.specs.Step.{Started}
 use Rattle.onepass.specs.Calls.{Call, Calls, tagsOf}
 use Rattle.onepass.specs.declared.export.StepReply.{StepReply}
 use Rattle.onepass.proofs.Agrees.{report-fed}
-use Rattle.records.specs.Kinds.{leadsBack}
+use Rattle.terms.specs.Kinds.{leadsBack}
 use Rattle.paths.specs.Syntax.{Test, namesT}
 use Rattle.paths.specs.Selection.{Selects}
 use Rattle.paths.specs.Translation.{lastOf, tableOf}
-use Rattle.records.specs.Limits.{entriesMost}
+use Rattle.terms.specs.Limits.{entriesMost}
 use Rattle.paths.specs.Answer.{TextOf, bytesFor, taken}
 use Rattle.paths.proofs.Answer.{gets-only}
 use Rattle.paths.proofs.Unambiguous.{text-only}
@@ -39,6 +38,9 @@ use Rattle.typing.specs.Typed.{Typed}
 use Rattle.typing.specs.declared.export.PathReply.{PathReply}
 use Rattle.typing.proofs.Answered.{zero-iff}
 use Rattle.both.proofs.Same.{opening-there}
+use Rattle.rules.specs.Entries.{entriesOf}
+use Rattle.reports.specs.Elements.{labelsOf, levelsOf}
+use Rattle.numbers.specs.Bits.{bit, bitAt}
 
 bit-one : (b : Bool) → (bit b ≡ 1) ↔ (b ≡ true)
 bit-one true = (λ e. refl, λ e. refl)
@@ -83,11 +85,11 @@ module _ (text lent after : List ℕ) (r : PathReply) (t : Test) (typed : Typed 
       → (before : List Call) (label : ℕ) (a : StepReply) (later : List Call)
       → Calls rule start (before ++ (record { tag = opens label; answer = a } ∷ later)) end
       → tagsOf (before ++ (record { tag = opens label; answer = a } ∷ later)) ≡ tagsIn report
-      → (a .number ≡ 0) × ((a .verdict ≡ 1) ↔ Selects (levelsOf report) (labelsOf report) t (opened (tagsOf before)))
+      → (a .number ≡ 0) × ((a .verdict ≡ 1) ↔ Selects (levelsOf report) (labelsOf report) t (openedCount (tagsOf before)))
   opened-selects back report n bytes report-taken given start end r₀ started begun before label a later calls fed =
       let accepted = table-taken t (spelt .labels) few in
       let looks : LooksBack (entriesOf (bytesFor t)) = rw (accepted .1) (table-back t .1 back) in
-      let s = opened (tagsOf before) in
+      let s = openedCount (tagsOf before) in
       let cs = before ++ (record { tag = opens label; answer = a } ∷ later) in
       let fed-rule : Calls (bytesFor t) start cs end = rw rule-is at calls in
       let q = report-fed (bytesFor t) _ (accepted .0) looks given start r₀ started begun report n bytes report-taken cs end fed-rule fed before label a later refl in

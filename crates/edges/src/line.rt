@@ -51,7 +51,7 @@ fn begun(part: usize, rule: usize, size: usize) -> Line
 }
 
 // A line of which nothing is spelt but the two bytes of the rule's length.
-fn fresh(part: usize) -> Line
+fn empty_line(part: usize) -> Line
     ensures { λ r. ⌜ Sound r ⌝ }
 {
     begun(part, 2, 2)
@@ -63,7 +63,7 @@ fn with_name(c: u8) -> Line
 {
     put_byte(c);
     let part = if c == b':' { RULE } else { NAME };
-    fresh(part)
+    empty_line(part)
 }
 
 // A number with one digit more.
@@ -104,7 +104,7 @@ fn with_number(mut line: Line, bytes: &mut [u8; 65536]) -> Line
     }
     let end = line.size + width(line.number, line.part);
     if 65536 < end {
-        return fresh(UNREAD);
+        return empty_line(UNREAD);
     }
     put_number(line.number as usize, bytes, line.size);
     line.number = NONE;
@@ -132,7 +132,7 @@ fn with_record(line: Line, bytes: &mut [u8; 65536]) -> Line
     let count = whole.size - whole.start;
     let end = whole.start + whole.times as usize * count;
     if 65536 < end {
-        return fresh(UNREAD);
+        return empty_line(UNREAD);
     }
     repeat(bytes, count, whole.size, end);
     begun(whole.part, whole.rule, end)
@@ -151,7 +151,7 @@ fn with_part(line: Line, bytes: &mut [u8; 65536]) -> Line
     if whole.part == REPORT {
         return begun(WORDS, whole.rule, whole.size);
     }
-    fresh(UNREAD)
+    empty_line(UNREAD)
 }
 
 // A character behind the name. A star says that the number is how often its record is put.
@@ -172,7 +172,7 @@ fn with_sign(mut line: Line, c: u8, bytes: &mut [u8; 65536]) -> Line
         b' ' => with_number(line, bytes),
         b',' => with_record(line, bytes),
         b'/' => with_part(line, bytes),
-        _ => fresh(UNREAD),
+        _ => empty_line(UNREAD),
     }
 }
 
@@ -194,7 +194,7 @@ fn with(line: Line, c: u8, bytes: &mut [u8; 65536]) -> Line
 {
     if c == b'\n' {
         end(line, bytes);
-        return fresh(START);
+        return empty_line(START);
     }
     if line.part <= NAME {
         return with_name(c);
@@ -204,7 +204,7 @@ fn with(line: Line, c: u8, bytes: &mut [u8; 65536]) -> Line
 
 // Answers every line, the last one also where no line feed ends it.
 pub(crate) fn run(text: &[u8], bytes: &mut [u8; 65536]) {
-    let mut line = fresh(START);
+    let mut line = empty_line(START);
     let mut i: usize = 0;
     while i < text.len() {
         line = with(line, text[i], bytes);

@@ -5,7 +5,7 @@ ghost use Rattle.marking.specs.Evaluation.{Evaluated};
 ghost use Rattle.evaluate.specs.Columns.{elementBytes, smallColumns, middleColumns};
 use marking::report::Evaluation;
 use marking::report::mark_report;
-use records::limits::ELEMENTS_MOST;
+use terms::limits::ELEMENTS_MOST;
 
 // Columns are made for so many elements, by how many bytes the report has: an accepted report has ten
 // bytes an element.

@@ -8,7 +8,7 @@ use mathlib.Core.Path.{_≡_, sym}
 use mathlib.Core.List.{List, [], _∷_, _++_}
 use lib.ListN.{length, take, drop, take-append-drop}
 use lib.Seq.{drop-cons, drop-drop, take-add, getD-append-add}
-use Rattle.records.specs.Bytes.{numberAt}
+use Rattle.numbers.specs.Bytes.{numberAt}
 use Rattle.grammar.specs.Bytes.{twoBytes, Bytes}
 
 -- The number read where a number's two bytes stand is that number.

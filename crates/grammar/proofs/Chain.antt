@@ -4,7 +4,7 @@ use Prim.Native.Nat.{ℕ}
 use mathlib.Core.Path.{_≡_, refl, sym}
 use mathlib.Core.Bool.{Bool, true, false, cond}
 use mathlib.Core.Logic.{_⊎_, inl, inr, _↔_}
-use Rattle.grammar.proofs.Tells.{Told, holds, fails, pick-here, pick-later, pick-never}
+use Rattle.numbers.proofs.Tells.{IsTest, holds, fails, pick-here, pick-later, pick-never}
 
 -- Three numbers that differ from each other and from 0.
 pub record Distinct (x y z : ℕ) : Type 0 where
@@ -26,7 +26,7 @@ chain-numbers x y z false true c k e n = inr (inl (sym e))
 chain-numbers x y z false false true k e n = inr (inr (sym e))
 chain-numbers x y z false false false k e n = absurd (n (sym e))
 
-module _ {P Q R : Type 0} {a b c : Bool} (x y z : ℕ) (d : Distinct x y z) (p : Told P a) (q : Told Q b) (r : Told R c) where
+module _ {P Q R : Type 0} {a b c : Bool} (x y z : ℕ) (d : Distinct x y z) (p : IsTest P a) (q : IsTest Q b) (r : IsTest R c) where
   -- The first number is given exactly where the first row applies.
   pub chain-first-iff : (chain x y z a b c ≡ x) ↔ P
   chain-first-iff =
@@ -44,6 +44,6 @@ module _ {P Q R : Type 0} {a b c : Bool} (x y z : ℕ) (d : Distinct x y z) (p :
   -- 0 is given exactly where no row applies.
   pub chain-none-iff : (chain x y z a b c ≡ 0) ↔ ((P → ⊥) × ((Q → ⊥) × (R → ⊥)))
   chain-none-iff = pick-later x _ 0 p (d .some-x) (pick-later y _ 0 q (d .some-y) (last r)) where
-    last : {t : Bool} → Told R t → (cond t z 0 ≡ 0) ↔ (R → ⊥)
+    last : {t : Bool} → IsTest R t → (cond t z 0 ≡ 0) ↔ (R → ⊥)
     last (holds h) = (λ e. absurd (d .some-z e), λ n. absurd (n h))
     last (fails n) = (λ e. n, λ m. refl)

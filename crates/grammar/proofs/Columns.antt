@@ -8,11 +8,12 @@ use mathlib.Core.List.{List, [], map}
 use mathlib.Core.Logic.{⊎-elim}
 use lib.ListN.{length, getD, length-append, length-map, List·getD-append, List·getD-map}
 use lib.Seq.{getD-at, ext-getD}
-use Rattle.records.specs.declared.rule.Entry.{Entry}
-use Rattle.records.specs.Tables.{over, kindOf, aOf, bOf}
-use Rattle.records.proofs.TableLaws.{over-at}
+use Rattle.rules.specs.declared.rule.Entry.{Entry}
 use Rattle.grammar.specs.Rules.{noEntry}
 use Rattle.grammar.specs.Columns.{entryIn, tableOf}
+use Rattle.rules.specs.Entries.{kindOf, aOf, bOf}
+use Rattle.numbers.specs.Lists.{over}
+use Rattle.numbers.proofs.Lists.{over-at}
 
 module _ (kinds firsts seconds : List ℕ) where
   -- There are as many entries as asked for.

@@ -10,14 +10,14 @@ use mathlib.Core.Logic.{_⊎_, inl, inr, _↔_}
 use lib.Dec.{ltb, eqb}
 use lib.ListN.{length}
 use borrow.Author.Tests.{eq-eqb, ne-eqb}
-use Rattle.records.specs.First.{first}
-use Rattle.records.specs.Frame.{startOf, stopsAt}
-use Rattle.records.specs.declared.answer.Answer.{Answer}
-use Rattle.records.specs.declared.answer.Answer.the-variants.{Refused}
-use Rattle.records.proofs.First.{first-is, first-before, first-there}
+use Rattle.numbers.specs.First.{first}
+use Rattle.terms.specs.Frame.{startOf, stopsAt}
+use Rattle.terms.specs.declared.answer.Answer.{Answer}
+use Rattle.terms.specs.declared.answer.Answer.the-variants.{Refused}
+use Rattle.numbers.proofs.First.{first-is, first-before, first-there}
 use Rattle.grammar.specs.When.{Faulty, Sized, Reached, Ended}
 use Rattle.grammar.proofs.Frame.{start-strict, start-within}
-use Rattle.grammar.proofs.Tells.{Told, holds, fails, true-iff, false-iff, told-stable, or-told, not-told, ltb-told, eqb-told}
+use Rattle.numbers.proofs.Tells.{IsTest, holds, fails, true-iff, false-iff, test-stable, or-tests, not-tests, ltb-tests, eqb-tests}
 
 -- What is answered where reading stops at record i, `ends` being the answer at the end of the string.
 abbrev pub answers : (ℕ → ℕ) → List ℕ → (ℕ → Answer) → ℕ → Answer
@@ -34,8 +34,8 @@ pub data Decided (fault : ℕ → ℕ) (s : List ℕ) (ends : ℕ → Answer) (a
   by-fault : (i p : ℕ) → Fails fault s i p → Refused (fault i) p ≡ a → Decided fault s ends a
 
 module _ (fault : ℕ → ℕ) (s : List ℕ) where
-  stops-told : (i : ℕ) → Told ((startOf s i ≡ length s) ⊎ (fault i ≡ 0 → ⊥)) (stopsAt fault s i)
-  stops-told i = or-told (eqb-told (startOf s i) (length s)) (not-told (eqb-told (fault i) 0))
+  stops-told : (i : ℕ) → IsTest ((startOf s i ≡ length s) ⊎ (fault i ≡ 0 → ⊥)) (stopsAt fault s i)
+  stops-told i = or-tests (eqb-tests (startOf s i) (length s)) (not-tests (eqb-tests (fault i) 0))
 
   goes-on : (k : ℕ) → startOf s k ≤ length s → ((j : ℕ) → j < k → fault j ≡ 0) → (j : ℕ) → j < k → stopsAt fault s j ≡ false
   goes-on k h clean j l =
@@ -76,11 +76,11 @@ module _ (fault : ℕ → ℕ) (s : List ℕ) where
 
     decides-at : (k : ℕ) → ((j : ℕ) → j < k → stopsAt fault s j ≡ false) → (k < bound → stopsAt fault s k ≡ true)
         → Ended fault s k ⊎ Fails fault s k (startOf s k)
-    decides-at k before there = go (eqb-told (startOf s k) (length s)) where
+    decides-at k before there = go (eqb-tests (startOf s k) (length s)) where
       clean : (j : ℕ) → j < k → fault j ≡ 0
-      clean j l = told-stable (eqb-told (fault j) 0) (λ n. false-iff (stops-told j) .0 (before j l) (inr n))
+      clean j l = test-stable (eqb-tests (fault j) 0) (λ n. false-iff (stops-told j) .0 (before j l) (inr n))
 
-      go : {b : Bool} → Told (startOf s k ≡ length s) b → Ended fault s k ⊎ Fails fault s k (startOf s k)
+      go : {b : Bool} → IsTest (startOf s k ≡ length s) b → Ended fault s k ⊎ Fails fault s k (startOf s k)
       go (holds e) = inl (record { at-end = e; clean = clean })
       go (fails n) =
           inr (record {
@@ -118,8 +118,8 @@ abbrev pub sizeFirst : ℕ → ℕ → List ℕ → Answer → Answer
 sizeFirst number most s later = cond (ltb (length s) 1 || ltb most (length s)) (Refused number 0) later
 
 module _ (number most : ℕ) (s : List ℕ) (later : Answer) where
-  size-told : Told ((length s < 1) ⊎ (most < length s)) (ltb (length s) 1 || ltb most (length s))
-  size-told = or-told (ltb-told (length s) 1) (ltb-told most (length s))
+  size-told : IsTest ((length s < 1) ⊎ (most < length s)) (ltb (length s) 1 || ltb most (length s))
+  size-told = or-tests (ltb-tests (length s) 1) (ltb-tests most (length s))
 
   empty-or : (length s < 1) ⊎ (most < length s) → (length s ≡ 0) ⊎ (most < length s)
   empty-or (inl h) = inl (omega arith)
@@ -129,7 +129,7 @@ module _ (number most : ℕ) (s : List ℕ) (later : Answer) where
   or-empty (inl h) = inl (omega arith)
   or-empty (inr h) = inr h
 
-  unsized-at : (p : ℕ) {b : Bool} → Told ((length s < 1) ⊎ (most < length s)) b → (later ≡ Refused number p → ⊥)
+  unsized-at : (p : ℕ) {b : Bool} → IsTest ((length s < 1) ⊎ (most < length s)) b → (later ≡ Refused number p → ⊥)
       → (cond b (Refused number 0) later ≡ Refused number p) ↔ ((p ≡ 0) × ((length s ≡ 0) ⊎ (most < length s)))
   unsized-at p (holds h) never = (λ e. (cc, empty-or h), λ q. cc (q .0))
   unsized-at p (fails n) never = (λ e. absurd (never e), λ q. absurd (n (or-empty (q .1))))
@@ -139,7 +139,7 @@ module _ (number most : ℕ) (s : List ℕ) (later : Answer) where
       → (sizeFirst number most s later ≡ Refused number p) ↔ ((p ≡ 0) × ((length s ≡ 0) ⊎ (most < length s)))
   unsized-iff p never = unsized-at p size-told never
 
-  sized-at : (a : Answer) {b : Bool} → Told ((length s < 1) ⊎ (most < length s)) b → (Refused number 0 ≡ a → ⊥)
+  sized-at : (a : Answer) {b : Bool} → IsTest ((length s < 1) ⊎ (most < length s)) b → (Refused number 0 ≡ a → ⊥)
       → (cond b (Refused number 0) later ≡ a) ↔ (Sized most s × (later ≡ a))
   sized-at a (holds h) never = (
     λ e. absurd (never e),

@@ -6,25 +6,26 @@ use native.Mathlib.Omega.{arith}
 use mathlib.Core.Path.{_≡_, refl, sym, ap, _∙_}
 use mathlib.Core.List.{List, []}
 use lib.ListN.{length, length-append}
-use Rattle.records.specs.Answer.{countOf, found}
-use Rattle.records.specs.Frame.{startOf}
-use Rattle.records.specs.Report.{tagsBefore, reportFault, reportAnswer, tagsOf}
-use Rattle.records.specs.Tables.{labelsOf, levelsOf}
-use Rattle.records.specs.Tags.{labels, levels, opened}
-use Rattle.records.specs.declared.answer.Answer.{Answer}
-use Rattle.records.specs.declared.answer.Answer.the-variants.{Accepted, Refused}
+use Rattle.terms.specs.Answer.{countOf, whereAccepted}
+use Rattle.terms.specs.Frame.{startOf}
+use Rattle.reports.specs.Report.{tagsBefore, reportFault, reportAnswer, tagsOf}
+use Rattle.reports.specs.Tags.{labels, levels, openedCount}
+use Rattle.terms.specs.declared.answer.Answer.{Answer}
+use Rattle.terms.specs.declared.answer.Answer.the-variants.{Accepted, Refused}
 use Rattle.grammar.specs.Legal.{Legal, LegalLevels}
 use Rattle.grammar.specs.Reports.{Tree, tagsT, bytesOf, Labelled, Within}
 use Rattle.grammar.specs.When.{Ended}
-use Rattle.records.proofs.TagLaws.{levels-count}
+use Rattle.reports.proofs.TagLaws.{levels-count}
 use Rattle.grammar.proofs.Fits.{fit-few, fit-labelled, legal-levels}
 use Rattle.grammar.proofs.Trees.{tree-some, tags-size, legal-tree}
 use Rattle.grammar.proofs.WhenReport.{report-accepted-iff, report-last}
 use Rattle.grammar.proofs.ReportBytes.{clean-fit, tags-are, tree-accepted}
-use Rattle.records.specs.Limits.{elementsMost}
+use Rattle.terms.specs.Limits.{elementsMost}
+use Rattle.reports.specs.Elements.{labelsOf, levelsOf}
+use Rattle.numbers.specs.Lists.{listed}
 
 tags-length : (s : List ℕ) (i : ℕ) → length (tagsBefore s i) ≡ i
-unfolding tagsBefore
+unfolding listed
 tags-length s zero = refl
 tags-length s (suc i) = length-append (tagsBefore s i) _ ∙ omega (arith, tags-length s i)
 
@@ -43,7 +44,7 @@ module _ (s : List ℕ) where
         rw (report-last s (h .0) (h .1)) (record { fit = clean-fit s (h .0) (h .1 .clean); ended = h .2 })
 
     -- An accepted report's tags open as many elements as the answer says.
-    accepted-opened : opened (tagsOf s) ≡ n
+    accepted-opened : openedCount (tagsOf s) ≡ n
     accepted-opened = let h = report-accepted-iff s n .0 accepted .1 in rw (report-last s (h .0) (h .1)) (h .3)
 
     accepted-tags : tagsOf s ≡ [] → ⊥
@@ -55,7 +56,7 @@ module _ (s : List ℕ) where
     pub elements-some : 1 ≤ n
     elements-some =
         let t = legal-tree (tagsOf s) accepted-legal accepted-tags in
-        omega (arith, accepted-opened, ap opened (t .1), tags-size (t .0), tree-some (t .0))
+        omega (arith, accepted-opened, ap openedCount (t .1), tags-size (t .0), tree-some (t .0))
 
     -- An accepted report's labels are those of its tags.
     pub labels-accepted : labelsOf s ≡ labels (tagsOf s)
@@ -71,9 +72,9 @@ module _ (s : List ℕ) where
     pub levels-legal : LegalLevels (levelsOf s)
     levels-legal = rw levels-accepted (legal-levels (tagsOf s) (accepted-legal .fit))
 
-  found-count : (xs : List ℕ) → length xs ≡ opened (tagsOf s) → length (found (reportAnswer s) xs) ≡ countOf (reportAnswer s)
+  found-count : (xs : List ℕ) → length xs ≡ openedCount (tagsOf s) → length (whereAccepted (reportAnswer s) xs) ≡ countOf (reportAnswer s)
   found-count xs h = go (reportAnswer s) refl where
-    go : (a : Answer) → reportAnswer s ≡ a → length (found a xs) ≡ countOf a
+    go : (a : Answer) → reportAnswer s ≡ a → length (whereAccepted a xs) ≡ countOf a
     go (Accepted n) e = h ∙ accepted-opened n e
     go (Refused k p) e = refl
 
@@ -98,7 +99,7 @@ module _ (s : List ℕ) where
   pub label-range : Labelled (labelsOf s)
   unfolding labelsOf
   label-range = go (reportAnswer s) refl where
-    go : (a : Answer) → reportAnswer s ≡ a → Labelled (found a (labels (tagsOf s)))
+    go : (a : Answer) → reportAnswer s ≡ a → Labelled (whereAccepted a (labels (tagsOf s)))
     go (Accepted n) e = fit-labelled (tagsOf s) 0 0 (accepted-legal n e .fit)
     go (Refused k p) e = λ i l. absurd (not-suc-le-zero l)
 

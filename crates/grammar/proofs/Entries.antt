@@ -1,31 +1,30 @@
 -- What the layers above need of a rule's entries, as laws of `entriesOf`, for every list: how many there are, and that each is well
 -- formed at its place; from that, the ranges of its kind, its entry numbers and its label. Assumes nothing.
 use Prim.Native.Nat.{ℕ, zero, suc, _≤_, _<_}
-use native.Mathlib.Nat.{eq-or-lt-of-le, le-of-suc-le-suc}
 use native.Mathlib.Omega.{arith}
 use native.Mathlib.Decide.{decLt}
 use mathlib.Core.Path.{_≡_, refl, ap, _∙_}
-use mathlib.Core.List.{List, []}
+use mathlib.Core.List.{List}
 use mathlib.Core.Logic.{inl, inr}
-use lib.ListN.{length, getD, List·getD-append}
-use lib.Seq.{getD-at}
+use lib.ListN.{length, getD}
 use borrow.Author.Tests.{lt-leb}
-use Rattle.records.specs.Answer.{countOf}
-use Rattle.records.specs.Frame.{kindAt, startOf}
-use Rattle.records.specs.Kinds.{rowOf, ruleLength}
-use Rattle.records.specs.Rule.{entryOf, entryAt, ruleAnswer, ruleFaults}
-use Rattle.records.specs.Tables.{entriesBefore, entriesOf}
-use Rattle.records.specs.declared.answer.Answer.{Answer}
-use Rattle.records.specs.declared.answer.Answer.the-variants.{Accepted, Refused}
-use Rattle.records.specs.declared.kind.Numbers.the-variants.{Entries}
-use Rattle.records.specs.declared.rule.Entry.{Entry}
+use Rattle.terms.specs.Answer.{countOf}
+use Rattle.terms.specs.Frame.{kindAt, startOf}
+use Rattle.terms.specs.Kinds.{rowOf, ruleLength}
+use Rattle.rules.specs.Rule.{entryOf, entryAt, ruleAnswer, ruleFaults}
+use Rattle.terms.specs.declared.answer.Answer.{Answer}
+use Rattle.terms.specs.declared.answer.Answer.the-variants.{Accepted, Refused}
+use Rattle.terms.specs.declared.kind.Numbers.the-variants.{Entries}
+use Rattle.rules.specs.declared.rule.Entry.{Entry}
 use Rattle.grammar.specs.Rules.{noEntry, WellFormed, RuleEntries}
 use Rattle.grammar.specs.When.{Sized, bad-label, bad-a, bad-b, Ended}
 use Rattle.grammar.proofs.Frame.{unfaulty-sound}
-use Rattle.records.proofs.Rows.{known-range, kind-label, kind-entries}
-use Rattle.records.proofs.TableLaws.{entries-length}
+use Rattle.terms.proofs.Rows.{known-range, kind-label, kind-entries}
 use Rattle.grammar.proofs.WhenRule.{fault-0-iff, rule-accepted-iff}
-use Rattle.records.specs.Limits.{entriesMost, labelMost, ruleMost}
+use Rattle.terms.specs.Limits.{entriesMost, labelMost, ruleMost}
+use Rattle.rules.specs.Entries.{entriesBefore, entriesOf}
+use Rattle.rules.proofs.EntryLaws.{entries-length}
+use Rattle.numbers.proofs.Lists.{listed-at}
 
 -- ---- a well-formed entry
 
@@ -77,13 +76,7 @@ module _ (s : List ℕ) where
 
   -- Entry i is the one read at record i.
   pub before-at : (n i : ℕ) → i < n → getD (entriesBefore s n) i noEntry ≡ entryAt s (startOf s i)
-  unfolding entriesBefore
-  before-at zero i l = absurd (omega arith)
-  before-at (suc n) i l =
-      elim (eq-or-lt-of-le (le-of-suc-le-suc l)) [
-        | inl e ↦ rw e (getD-at (entriesBefore s n) (entryAt s (startOf s n)) [] noEntry n (entries-length s n))
-        | inr m ↦ List·getD-append (entriesBefore s n) _ noEntry i (omega (arith, entries-length s n)) ∙ before-at n i m
-      ]
+  before-at n i l = listed-at n _ i noEntry l
 
   -- ---- the entries of a rule
 

@@ -9,34 +9,34 @@ use mathlib.Core.List.{List, [], _∷_, _++_}
 use mathlib.Core.Logic.{_↔_}
 use lib.Dec.{ltb, eqb}
 use lib.ListN.{length, getD}
-use Rattle.records.specs.Tags.{Tag, opens, closes, depthFrom, depth, labels, levelsFrom, levels, opened, tagFault}
+use Rattle.reports.specs.Tags.{Tag, opens, closes, depthFrom, depth, labels, levelsFrom, levels, openedCount, tagFault}
 use Rattle.grammar.specs.Legal.{Fit, LegalLevels}
 use Rattle.grammar.specs.Reports.{Labelled}
-use Rattle.records.proofs.TagLaws.{depth-append, opened-append, levels-count}
+use Rattle.reports.proofs.TagLaws.{depth-append, opened-append, levels-count}
 use Rattle.grammar.proofs.TagRows.{opens-well-iff, closes-well-iff}
-use Rattle.records.specs.Limits.{elementsMost, labelMost}
+use Rattle.terms.specs.Limits.{elementsMost, labelMost}
 
 -- Two sequences one after the other fit exactly where the first fits and the second fits where the first ends.
-pub fit-append : (ts us : List Tag) (d e : ℕ) → Fit d e (ts ++ us) ↔ (Fit d e ts × Fit (depthFrom d ts) (e + opened ts) us)
+pub fit-append : (ts us : List Tag) (d e : ℕ) → Fit d e (ts ++ us) ↔ (Fit d e ts × Fit (depthFrom d ts) (e + openedCount ts) us)
 unfolding Fit labels depthFrom
 fit-append [] us d e = (λ h. (tt, rw add-zero h), λ h. rw add-zero at (h .1))
 fit-append (t ∷ ts) us d e =
-    let ih = fit-append ts us (depthFrom d (t ∷ [])) (e + opened (t ∷ [])) in
-    let n = add-assoc e (opened (t ∷ [])) (opened ts) in
+    let ih = fit-append ts us (depthFrom d (t ∷ [])) (e + openedCount (t ∷ [])) in
+    let n = add-assoc e (openedCount (t ∷ [])) (openedCount ts) in
     rw (depth-append d (t ∷ []) ts, opened-append (t ∷ []) ts, ← n)
     (λ h. let r = ih .0 (h .1) in ((h .0, r .0), r .1), λ h. (h .0 .0, ih .1 (h .0 .1, h .1)))
 
 -- A sequence fits with one tag more exactly where it fits and that tag gets no number after it.
 pub fit-snoc : (ts : List Tag) (t : Tag) → Fit 0 0 (ts ++ (t ∷ []))
-    ↔ (Fit 0 0 ts × (tagFault (depth ts) (opened ts) (eqb (depth ts) 0 && ltb 0 (opened ts)) t ≡ 0))
+    ↔ (Fit 0 0 ts × (tagFault (depth ts) (openedCount ts) (eqb (depth ts) 0 && ltb 0 (openedCount ts)) t ≡ 0))
 unfolding Fit
 fit-snoc ts t =
     let r = fit-append ts (t ∷ []) 0 0 in
-    let z = zero-add (opened ts) in
+    let z = zero-add (openedCount ts) in
     (λ h. (r .0 h .0, rw z at (r .0 h .1 .0)), λ h. r .1 (h .0, (rw z (h .1), tt)))
 
 -- The elements that fit are no more than 4,096.
-pub fit-few : (ts : List Tag) (d e : ℕ) → e ≤ elementsMost → Fit d e ts → e + opened ts ≤ elementsMost
+pub fit-few : (ts : List Tag) (d e : ℕ) → e ≤ elementsMost → Fit d e ts → e + openedCount ts ≤ elementsMost
 unfolding Fit labels depthFrom
 fit-few [] d e l h = omega arith
 fit-few (opens a ∷ ts) d e l h =

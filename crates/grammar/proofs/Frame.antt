@@ -7,11 +7,11 @@ use mathlib.Core.Path.{_≡_, refl}
 use mathlib.Core.Bool.{Bool, cond}
 use mathlib.Core.List.{List}
 use lib.ListN.{length}
-use Rattle.records.specs.Bytes.{numberAt}
-use Rattle.records.specs.Frame.{frameOf, kindAt, broken, nextOf, startOf}
-use Rattle.records.specs.declared.frame.Frame.the-variants.{Whole, Cut, Garbled}
+use Rattle.numbers.specs.Bytes.{numberAt}
+use Rattle.terms.specs.Frame.{frameOf, kindAt, broken, nextOf, startOf}
+use Rattle.terms.specs.declared.frame.Frame.the-variants.{Whole, Cut, Garbled}
 use Rattle.grammar.specs.When.{Faulty, few-left, unknown-kind, wrong-length, past-end}
-use Rattle.grammar.proofs.Tells.{Told, holds, fails, told-stable, ltb-told, eqb-told}
+use Rattle.numbers.proofs.Tells.{IsTest, holds, fails, test-stable, ltb-tests, eqb-tests}
 
 -- ---- one record
 
@@ -30,9 +30,9 @@ module _ (lengths : ℕ → ℕ) (s : List ℕ) (at : ℕ) where
   sound-unfaulty r (wrong-length n) = n (r .right)
   sound-unfaulty r (past-end h) = omega (arith, r .fits)
 
-  broken-told-at : {b1 b2 b3 b4 : Bool} → Told (length s < at + 4) b1 → Told (lengths (kindAt s at) ≡ 0) b2
-      → Told (numberAt s at ≡ lengths (kindAt s at)) b3 → Told (length s < at + 2 + lengths (kindAt s at)) b4
-      → Told (Faulty lengths s at) (broken (cond b1 Cut (cond b2 Garbled (cond b3 (cond b4 Cut Whole) Garbled))))
+  broken-told-at : {b1 b2 b3 b4 : Bool} → IsTest (length s < at + 4) b1 → IsTest (lengths (kindAt s at) ≡ 0) b2
+      → IsTest (numberAt s at ≡ lengths (kindAt s at)) b3 → IsTest (length s < at + 2 + lengths (kindAt s at)) b4
+      → IsTest (Faulty lengths s at) (broken (cond b1 Cut (cond b2 Garbled (cond b3 (cond b4 Cut Whole) Garbled))))
   broken-told-at (holds h) t2 t3 t4 = holds (few-left h)
   broken-told-at (fails h) (holds e) t3 t4 = holds (unknown-kind e)
   broken-told-at (fails h) (fails k) (holds e) (holds l) = holds (past-end (omega arith))
@@ -41,11 +41,11 @@ module _ (lengths : ℕ → ℕ) (s : List ℕ) (at : ℕ) where
   broken-told-at (fails h) (fails k) (fails n) t4 = holds (wrong-length n)
 
   -- The test of rows 2 and 6 tells whether a record is faulty.
-  pub broken-told : Told (Faulty lengths s at) (broken (frameOf s at (lengths (kindAt s at))))
+  pub broken-told : IsTest (Faulty lengths s at) (broken (frameOf s at (lengths (kindAt s at))))
   unfolding frameOf
   broken-told =
-      broken-told-at (ltb-told (length s) (at + 4)) (eqb-told (lengths (kindAt s at)) 0)
-      (eqb-told (numberAt s at) (lengths (kindAt s at))) (ltb-told (length s) (at + 2 + lengths (kindAt s at)))
+      broken-told-at (ltb-tests (length s) (at + 4)) (eqb-tests (lengths (kindAt s at)) 0)
+      (eqb-tests (numberAt s at) (lengths (kindAt s at))) (ltb-tests (length s) (at + 2 + lengths (kindAt s at)))
 
   -- A record that is not faulty is sound.
   pub unfaulty-sound : (Faulty lengths s at → ⊥) → Sound
@@ -55,7 +55,7 @@ module _ (lengths : ℕ → ℕ) (s : List ℕ) (at : ℕ) where
       record {
         left = omega arith;
         known = λ e. n (unknown-kind e);
-        right = told-stable (eqb-told (numberAt s at) (lengths (kindAt s at))) (λ m. n (wrong-length m));
+        right = test-stable (eqb-tests (numberAt s at) (lengths (kindAt s at))) (λ m. n (wrong-length m));
         fits = omega arith;
       }
 

@@ -1,6 +1,5 @@
 -- The laws of what the readers accept and refuse. Read in this order.
 pub mod Bytes
-pub mod Tells
 pub mod Chain
 pub mod Frame
 pub mod Decides
@@ -14,5 +13,6 @@ pub mod Fits
 pub mod Trees
 pub mod WhenReport
 pub mod ReportBytes
+pub mod Begins
 pub mod Elements
 pub mod Sizes

@@ -12,21 +12,22 @@ use mathlib.Core.List.{List, [], _∷_, _++_, append-assoc, append-nil}
 use mathlib.Core.Logic.{_↔_, ⊎-elim}
 use lib.ListN.{length, drop, length-append}
 use lib.Seq.{drop-length}
-use Rattle.records.specs.Bytes.{numberAt}
-use Rattle.records.specs.Frame.{kindAt, nextOf, startOf}
-use Rattle.records.specs.Tags.{Tag, opens, closes, opened}
-use Rattle.records.specs.Report.{reportLength, tagAt, tagsBefore, reportFault, reportAnswer, tagsOf}
-use Rattle.records.specs.declared.answer.Answer.the-variants.{Accepted}
+use Rattle.numbers.specs.Bytes.{numberAt}
+use Rattle.terms.specs.Frame.{kindAt, nextOf, startOf}
+use Rattle.reports.specs.Tags.{Tag, opens, closes, openedCount}
+use Rattle.reports.specs.Report.{reportLength, tagAt, tagsBefore, reportFault, reportAnswer, tagsOf}
+use Rattle.terms.specs.declared.answer.Answer.the-variants.{Accepted}
 use Rattle.grammar.specs.Bytes.{twoBytes, Bytes}
 use Rattle.grammar.specs.Legal.{Fit, Legal}
 use Rattle.grammar.specs.Reports.{Tree, tagBytes, bytesOf, tagsT, sizeT, Within}
 use Rattle.grammar.specs.When.{Faulty, Ended}
 use Rattle.grammar.proofs.Bytes.{number-back, number-shift, bytes-split}
-use Rattle.grammar.proofs.Tells.{Told, holds, fails, eqb-told}
+use Rattle.numbers.proofs.Tells.{IsTest, holds, fails, eqb-tests}
 use Rattle.grammar.proofs.Frame.{Sound, sound-unfaulty, unfaulty-sound, start-strict}
 use Rattle.grammar.proofs.Fits.{fit-snoc}
 use Rattle.grammar.proofs.Trees.{bytes-append, bytes-size, tree-some, tags-size, tags-start-only, tags-only, legal-tree, tree-legal}
 use Rattle.grammar.proofs.WhenReport.{record-0-iff, clean-unfaulty, report-accepted-iff, report-last}
+use Rattle.numbers.specs.Lists.{listed}
 
 -- ---- reading where a tag was written
 
@@ -85,7 +86,7 @@ below-more : (P : ℕ → Type 0) (n : ℕ) → ((j : ℕ) → j < n → P j) �
 below-more P n h z j l = ⊎-elim (λ e. subst P (sym e) z) (h j) (eq-or-lt-of-le (le-of-suc-le-suc l))
 
 reads-more : (us : List Tag) (t : Tag) (ys s : List ℕ) → s ≡ bytesOf us ++ (tagBytes t ++ ys) → Reads s us → Reads s (us ++ (t ∷ []))
-unfolding startOf tagsBefore
+unfolding startOf listed
 reads-more us t ys s e r =
     let tag : tagAt s (startOf s (length us)) ≡ t = rw (r .starts, e) (tag-front (bytesOf us) (tagBytes t ++ ys) ∙ tag-back t ys) in
     let unfaulty : Sound reportLength s (startOf s (length us)) = rw (r .starts, e) (sound-front (bytesOf us) (tagBytes t ++ ys) (sound-back t ys)) in
@@ -109,7 +110,7 @@ reads-all (t ∷ ts) us rest s e r =
 
 -- Where a list begins with the bytes of some tags, its first records are those of the tags.
 pub tags-back : (ts : List Tag) (rest s : List ℕ) → s ≡ bytesOf ts ++ rest → Reads s ts
-unfolding bytesOf startOf tagsBefore
+unfolding bytesOf startOf listed
 tags-back ts rest s e = reads-all ts [] rest s e (record { starts = refl; reads = refl; whole = λ j l. absurd (not-suc-le-zero l) })
 
 -- Two starts at one place are those of one record.
@@ -153,8 +154,8 @@ module _ (s : List ℕ) (bytes : Bytes s) where
   -- Where a record is not faulty, its tag's bytes stand there, and then the next record.
   record-bytes : (at : ℕ) → Sound reportLength s at → drop at s ≡ tagBytes (tagAt s at) ++ drop (nextOf s at) s
   unfolding tagAt nextOf reportLength
-  record-bytes at r = go (eqb-told (kindAt s at) 1) (eqb-told (kindAt s at) 2) (r .known) (r .right) where
-    go : {b c : Bool} → Told (kindAt s at ≡ 1) b → Told (kindAt s at ≡ 2) c
+  record-bytes at r = go (eqb-tests (kindAt s at) 1) (eqb-tests (kindAt s at) 2) (r .known) (r .right) where
+    go : {b c : Bool} → IsTest (kindAt s at ≡ 1) b → IsTest (kindAt s at ≡ 2) c
         → (_≡_ {A = ℕ} (cond b 4 (cond c 2 0)) 0 → ⊥) → numberAt s at ≡ cond b 4 (cond c 2 0)
         → drop at s ≡ tagBytes (cond b (opens (numberAt s (at + 4))) closes) ++ drop (at + 2 + numberAt s at) s
     go (holds k) c n q = opens-bytes at (omega (arith, r .fits, q)) k q
@@ -164,7 +165,7 @@ module _ (s : List ℕ) (bytes : Bytes s) where
   -- Where its first i records are not faulty, a byte string is the bytes of their tags, and then what is left.
   bytes-read : (i : ℕ) → ((j : ℕ) → j < i → Faulty reportLength s (startOf s j) → ⊥)
       → s ≡ bytesOf (tagsBefore s i) ++ drop (startOf s i) s
-  unfolding bytesOf startOf tagsBefore
+  unfolding bytesOf startOf listed
   bytes-read zero h = refl
   bytes-read (suc i) h =
       let at = startOf s i in
@@ -179,7 +180,7 @@ module _ (s : List ℕ) (bytes : Bytes s) where
 module _ (s : List ℕ) where
   -- Where the first i records get no number, their tags fit.
   pub clean-fit : (i : ℕ) → ((j : ℕ) → j < i → reportFault s j ≡ 0) → Fit 0 0 (tagsBefore s i)
-  unfolding reportFault tagsBefore Fit
+  unfolding reportFault listed Fit
   clean-fit zero h = tt
   clean-fit (suc i) h =
       fit-snoc (tagsBefore s i) (tagAt s (startOf s i)) .1
@@ -188,7 +189,7 @@ module _ (s : List ℕ) where
   -- Where the first i records are not faulty and their tags fit, they get no number.
   fit-clean : (i : ℕ) → Fit 0 0 (tagsBefore s i) → ((j : ℕ) → j < i → Faulty reportLength s (startOf s j) → ⊥)
       → (j : ℕ) → j < i → reportFault s j ≡ 0
-  unfolding reportFault tagsBefore
+  unfolding reportFault listed
   fit-clean zero f h j l = absurd (not-suc-le-zero l)
   fit-clean (suc i) f h j l =
       let r = fit-snoc (tagsBefore s i) (tagAt s (startOf s i)) .0 f in
@@ -238,7 +239,7 @@ accepted-tree s bytes n e =
     let b = ended-bytes s bytes (h .1 .0) (h .1 .1) in
     let l : Legal 0 0 ts = record { fit = clean-fit s (h .1 .0) (h .1 .1 .clean); ended = h .1 .2 } in
     let t = legal-tree ts l (bytes-some s ts b (h .0 .some)) in
-    (t .0, b ∙ ap bytesOf (t .1), t .2, sym (tags-size (t .0)) ∙ ap opened (sym (t .1)) ∙ h .1 .3)
+    (t .0, b ∙ ap bytesOf (t .1), t .2, sym (tags-size (t .0)) ∙ ap openedCount (sym (t .1)) ∙ h .1 .3)
 
 -- A byte string is accepted with n elements exactly where it is the bytes of a tree within the limits that has n elements.
 pub report-iff : (s : List ℕ) → Bytes s → (n : ℕ)
@@ -253,33 +254,41 @@ tags-are s t e w = ap (tagsBefore s) (report-last s (length (tagsT t)) (tree-end
 pub report-only : (t u : Tree) → bytesOf (tagsT t) ≡ bytesOf (tagsT u) → t ≡ u
 report-only t u e = tags-only t u (bytes-only (tagsT t) (tagsT u) e)
 
--- ---- a report that lost its end
+-- ---- bytes that begin others
 
 -- What is read before a record begins with what is read before an earlier one.
-tags-begin : (s : List ℕ) (m n : ℕ) → m ≤ n → (vs : List Tag) × (tagsBefore s n ≡ tagsBefore s m ++ vs)
-unfolding tagsBefore
-tags-begin s m zero h = let e : m ≡ 0 = omega arith in ([], rw e refl)
-tags-begin s m (suc n) h =
+before-begins : (s : List ℕ) (m n : ℕ) → m ≤ n → (vs : List Tag) × (tagsBefore s n ≡ tagsBefore s m ++ vs)
+unfolding listed
+before-begins s m zero h = let e : m ≡ 0 = omega arith in ([], rw e refl)
+before-begins s m (suc n) h =
     ⊎-elim (λ e. ([], rw e (sym (append-nil (tagsBefore s (suc n))))))
-    (λ l. let r = tags-begin s m n (le-of-suc-le-suc l) in (
+    (λ l. let r = before-begins s m n (le-of-suc-le-suc l) in (
       r .0 ++ (tagAt s (startOf s n) ∷ []),
       ap (λ (ts : List Tag). ts ++ (tagAt s (startOf s n) ∷ [])) (r .1) ∙ append-assoc (tagsBefore s m) (r .0) (tagAt s (startOf s n) ∷ []),
     ))
     (eq-or-lt-of-le h)
 
+-- Where the bytes of some tags begin those of others, the tags begin the others.
+pub tags-begin : (us ts : List Tag) (rest : List ℕ) → bytesOf us ++ rest ≡ bytesOf ts → (more : List Tag) × (ts ≡ us ++ more)
+tags-begin us ts rest e =
+    let s = bytesOf ts in
+    let r = tags-back us rest s (sym e) in
+    let q = tags-back ts [] s (sym (append-nil s)) in
+    let fewer : length us ≤ length ts =
+    elim (decLt (length ts) (length us)) [
+      | yes l ↦ absurd (omega (arith, start-strict s (length ts) (length us) l, r .starts, q .starts, ap length e, length-append (bytesOf us) rest))
+      | no n ↦ omega (arith, n)
+    ] in
+    let more = before-begins s (length us) (length ts) fewer in
+    (more .0, sym (q .reads) ∙ more .1 ∙ ap (λ (vs : List Tag). vs ++ more .0) (r .reads))
+
+-- ---- a report that lost its end
+
 -- A tree's bytes begin those of another tree only where both trees are one, and then nothing follows.
 tree-begins-only : (t u : Tree) (rest : List ℕ) → bytesOf (tagsT u) ≡ bytesOf (tagsT t) ++ rest → (t ≡ u) × (rest ≡ [])
 tree-begins-only t u rest e =
-    let s = bytesOf (tagsT u) in
-    let r = tags-back (tagsT t) rest s e in
-    let q = tags-back (tagsT u) [] s (sym (append-nil s)) in
-    let fewer : length (tagsT t) ≤ length (tagsT u) =
-    elim (decLt (length (tagsT u)) (length (tagsT t))) [
-      | yes l ↦ absurd (omega (arith, start-strict s (length (tagsT u)) (length (tagsT t)) l, r .starts, q .starts, ap length e, length-append (bytesOf (tagsT t)) rest))
-      | no n ↦ omega (arith, n)
-    ] in
-    let more = tags-begin s (length (tagsT t)) (length (tagsT u)) fewer in
-    let same = tags-start-only t u (more .0) [] (ap (λ (ts : List Tag). ts ++ more .0) (sym (r .reads)) ∙ sym (more .1) ∙ q .reads ∙ sym (append-nil (tagsT u))) in
+    let more = tags-begin (tagsT t) (tagsT u) rest (sym e) in
+    let same = tags-start-only t u (more .0) [] (sym (more .1) ∙ sym (append-nil (tagsT u))) in
     (same .0, empty-rest rest (omega (arith, ap (λ (v : Tree). length (bytesOf (tagsT v))) (same .0), ap length e, length-append (bytesOf (tagsT t)) rest)))
   where
     empty-rest : (l : List ℕ) → length l ≡ 0 → l ≡ []

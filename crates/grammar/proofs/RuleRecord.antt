@@ -8,17 +8,17 @@ use mathlib.Core.Bool.{cond}
 use mathlib.Core.List.{List, _++_}
 use lib.Dec.{leb}
 use lib.ListN.{length, take, drop, length-append}
-use Rattle.records.specs.Bytes.{numberAt}
-use Rattle.records.specs.Frame.{kindAt}
-use Rattle.records.specs.Kinds.{rowOf, ruleLength}
-use Rattle.records.specs.Rule.{entryOf, entryAt}
-use Rattle.records.specs.declared.rule.Entry.{Entry}
+use Rattle.numbers.specs.Bytes.{numberAt}
+use Rattle.terms.specs.Frame.{kindAt}
+use Rattle.terms.specs.Kinds.{rowOf, ruleLength}
+use Rattle.rules.specs.Rule.{entryOf, entryAt}
+use Rattle.rules.specs.declared.rule.Entry.{Entry}
 use Rattle.grammar.specs.Bytes.{twoBytes, Bytes}
 use Rattle.grammar.specs.Rules.{bodyOf, recordOf, WellFormed}
 use Rattle.grammar.specs.When.{Misdirected}
 use Rattle.grammar.proofs.Bytes.{number-back, number-after, number-shift, number-at, bytes-back, bytes-more}
 use Rattle.grammar.proofs.Frame.{Sound}
-use Rattle.records.proofs.Rows.{row-measured}
+use Rattle.terms.proofs.Rows.{row-measured}
 
 -- Two entries with the same numbers are one.
 entry-same : (e : Entry) (kind a b : ℕ) → kind ≡ e .kind → a ≡ e .a → b ≡ e .b → record { kind = kind; a = a; b = b } ≡ e

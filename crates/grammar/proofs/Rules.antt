@@ -8,24 +8,25 @@ use mathlib.Core.List.{List, [], _∷_, _++_, append-assoc, append-nil}
 use mathlib.Core.Logic.{_↔_}
 use lib.ListN.{length, getD, take, drop, length-append}
 use lib.Seq.{take-add, take-suc, take-length, split-at, ext-getD}
-use Rattle.records.specs.Answer.{countOf}
-use Rattle.records.specs.Bytes.{numberAt}
-use Rattle.records.specs.Frame.{nextOf, startOf}
-use Rattle.records.specs.Rule.{entryAt, ruleFault, ruleAnswer, ruleFaults}
-use Rattle.records.specs.Tables.{entriesBefore, entriesOf}
-use Rattle.records.specs.declared.answer.Answer.the-variants.{Accepted}
-use Rattle.records.specs.declared.rule.Entry.{Entry}
-use Rattle.records.specs.Kinds.{ruleLength}
+use Rattle.terms.specs.Answer.{countOf}
+use Rattle.numbers.specs.Bytes.{numberAt}
+use Rattle.terms.specs.Frame.{nextOf, startOf}
+use Rattle.rules.specs.Rule.{entryAt, ruleFault, ruleAnswer, ruleFaults}
+use Rattle.terms.specs.declared.answer.Answer.the-variants.{Accepted}
+use Rattle.rules.specs.declared.rule.Entry.{Entry}
+use Rattle.terms.specs.Kinds.{ruleLength}
 use Rattle.grammar.specs.Bytes.{Bytes}
 use Rattle.grammar.specs.Rules.{noEntry, recordOf, ruleBytes, WellFormed, RuleEntries}
 use Rattle.grammar.specs.When.{bad-a}
 use Rattle.grammar.proofs.Entries.{before-at, entries-count, rule-entries}
-use Rattle.records.proofs.TableLaws.{entries-length}
 use Rattle.grammar.proofs.Frame.{sound-unfaulty, unfaulty-sound, start-step, start-far}
 use Rattle.grammar.proofs.RuleRecord.{record-length, read-length, entry-read, record-sound, record-directed, record-back}
-use Rattle.records.proofs.Rows.{row-measured}
+use Rattle.terms.proofs.Rows.{row-measured}
 use Rattle.grammar.proofs.WhenRule.{fault-0-iff, rule-accepted-iff}
-use Rattle.records.specs.Limits.{entriesMost, ruleMost}
+use Rattle.terms.specs.Limits.{entriesMost, ruleMost}
+use Rattle.rules.specs.Entries.{entriesBefore, entriesOf}
+use Rattle.rules.proofs.EntryLaws.{entries-length}
+use Rattle.numbers.specs.Lists.{listed}
 
 rule-append : (es fs : List Entry) → ruleBytes (es ++ fs) ≡ ruleBytes es ++ ruleBytes fs
 unfolding ruleBytes
@@ -37,7 +38,7 @@ rule-append (e ∷ es) fs = rw (rule-append es fs, append-assoc)
 module _ (s : List ℕ) (bytes : Bytes s) where
   -- The bytes up to record i are those of the entries before it.
   bytes-before : (i : ℕ) → ((j : ℕ) → j < i → ruleFaults s j ≡ 0) → ruleBytes (entriesBefore s i) ≡ take (startOf s i) s
-  unfolding ruleBytes entriesBefore startOf nextOf
+  unfolding ruleBytes listed startOf nextOf
   bytes-before zero clean = refl
   bytes-before (suc i) clean =
       let at = startOf s i in

@@ -6,15 +6,16 @@ use mathlib.Core.Bool.{Bool, true, false, _&&_}
 use mathlib.Core.List.{List, [], _∷_, _++_}
 use lib.Dec.{ltb, eqb}
 use lib.ListN.{length, length-append}
-use Rattle.records.specs.Bytes.{numberAt}
-use Rattle.records.specs.Frame.{kindAt, nextOf, startOf}
-use Rattle.records.specs.Report.{tagAt, tagsBefore, recordFault, reportFault, reportAnswer}
-use Rattle.records.specs.Tags.{Tag, opens, closes, depthFrom, depth, labels, opened, tagFault}
-use Rattle.records.specs.declared.answer.Answer.the-variants.{Accepted}
-use Rattle.records.proofs.ReportLaws.{tag-opens, tag-closes, record-sound, close-sound}
-use Rattle.records.proofs.TagLaws.{depth-append, labels-append}
-use Rattle.records.proofs.WalkLaws.{opens-size, closes-size}
+use Rattle.numbers.specs.Bytes.{numberAt}
+use Rattle.terms.specs.Frame.{kindAt, nextOf, startOf}
+use Rattle.reports.specs.Report.{tagAt, tagsBefore, recordFault, reportFault, reportAnswer}
+use Rattle.reports.specs.Tags.{Tag, opens, closes, depthFrom, depth, labels, openedCount, tagFault}
+use Rattle.terms.specs.declared.answer.Answer.the-variants.{Accepted}
+use Rattle.reports.proofs.ReportLaws.{tag-opens, tag-closes, record-sound, close-sound}
+use Rattle.reports.proofs.TagLaws.{depth-append, labels-append}
 use Rattle.grammar.proofs.WhenReport.{report-accepted-iff}
+use Rattle.reports.proofs.ElementLaws.{opens-size, closes-size}
+use Rattle.numbers.specs.Lists.{listed}
 
 -- A closing takes four bytes, and four times the elements open is as much less.
 closed-size : (at d e : ℕ) → at + 4 * d ≡ 10 * e → 0 < d → at + 4 + 4 * pred d ≡ 10 * e
@@ -23,16 +24,16 @@ closed-size at (suc d) e q l = omega arith
 
 module _ (s : List ℕ) where
   depth-next : (i : ℕ) (t : Tag) → tagAt s (startOf s i) ≡ t → depth (tagsBefore s (suc i)) ≡ depthFrom (depth (tagsBefore s i)) (t ∷ [])
-  unfolding tagsBefore
+  unfolding listed
   depth-next i t q = depth-append 0 (tagsBefore s i) _ ∙ rw q
 
-  opened-next : (i : ℕ) (t : Tag) → tagAt s (startOf s i) ≡ t → opened (tagsBefore s (suc i)) ≡ opened (tagsBefore s i) + opened (t ∷ [])
-  unfolding tagsBefore
+  opened-next : (i : ℕ) (t : Tag) → tagAt s (startOf s i) ≡ t → openedCount (tagsBefore s (suc i)) ≡ openedCount (tagsBefore s i) + openedCount (t ∷ [])
+  unfolding listed
   opened-next i t q = ap length (labels-append (tagsBefore s i) _) ∙ length-append (labels (tagsBefore s i)) _ ∙ rw q
 
   -- One record more that gets no number.
-  next-size : (i : ℕ) → startOf s i + 4 * depth (tagsBefore s i) ≡ 10 * opened (tagsBefore s i) → reportFault s i ≡ 0
-      → startOf s (suc i) + 4 * depth (tagsBefore s (suc i)) ≡ 10 * opened (tagsBefore s (suc i))
+  next-size : (i : ℕ) → startOf s i + 4 * depth (tagsBefore s i) ≡ 10 * openedCount (tagsBefore s i) → reportFault s i ≡ 0
+      → startOf s (suc i) + 4 * depth (tagsBefore s (suc i)) ≡ 10 * openedCount (tagsBefore s (suc i))
   unfolding startOf nextOf reportFault depthFrom labels
   next-size i before fine = go (eqb (kindAt s at) 1) refl
     where
@@ -43,9 +44,9 @@ module _ (s : List ℕ) where
       d = depth (tagsBefore s i)
 
       e : ℕ
-      e = opened (tagsBefore s i)
+      e = openedCount (tagsBefore s i)
 
-      go : (b : Bool) → eqb (kindAt s at) 1 ≡ b → startOf s (suc i) + 4 * depth (tagsBefore s (suc i)) ≡ 10 * opened (tagsBefore s (suc i))
+      go : (b : Bool) → eqb (kindAt s at) 1 ≡ b → startOf s (suc i) + 4 * depth (tagsBefore s (suc i)) ≡ 10 * openedCount (tagsBefore s (suc i))
       go true k =
           let t = tag-opens s at k in
           omega (arith, before, opens-size s at d e fine k, depth-next i _ t, opened-next i _ t)
@@ -55,8 +56,8 @@ module _ (s : List ℕ) where
           omega (arith, closed-size at d e before l, closes-size s at d e fine k, depth-next i _ t, opened-next i _ t)
 
   -- Where the first i records get no number: ten bytes for each element opened, but for the four that will close each open one.
-  start-size : (i : ℕ) → ((j : ℕ) → j < i → reportFault s j ≡ 0) → startOf s i + 4 * depth (tagsBefore s i) ≡ 10 * opened (tagsBefore s i)
-  unfolding startOf tagsBefore depthFrom labels
+  start-size : (i : ℕ) → ((j : ℕ) → j < i → reportFault s j ≡ 0) → startOf s i + 4 * depth (tagsBefore s i) ≡ 10 * openedCount (tagsBefore s i)
+  unfolding startOf listed depthFrom labels
   start-size zero h = refl
   start-size (suc i) h = next-size i (start-size i (λ j l. h j (omega arith))) (h i (omega arith))
 

@@ -6,12 +6,12 @@ use mathlib.Core.Path.{_≡_, refl}
 use mathlib.Core.Bool.{Bool, false, _||_, _&&_}
 use mathlib.Core.Logic.{_↔_, _⊎_, inl, inr, ⊎-elim}
 use lib.Dec.{leb, ltb, eqb}
-use Rattle.records.specs.Tags.{Tag, opens, closes, outside, tagFault}
+use Rattle.reports.specs.Tags.{Tag, opens, closes, tagFault}
 use Rattle.grammar.specs.When.{Outside, Mislabelled, bad-tag, Unbalanced, nothing-open, root-closed, TooMuch, too-deep}
 use Rattle.grammar.specs.When.{too-many}
-use Rattle.grammar.proofs.Tells.{Told, fails, told-iff, ltb-told, leb-told, eqb-told, or-told, and-told}
+use Rattle.numbers.proofs.Tells.{IsTest, fails, test-iff, ltb-tests, leb-tests, eqb-tests, or-tests, and-tests}
 use Rattle.grammar.proofs.Chain.{Distinct, chain, chain-none-iff}
-use Rattle.records.specs.Limits.{elementsMost, labelMost, levelsMost}
+use Rattle.terms.specs.Limits.{elementsMost, labelMost, levelsMost, outside}
 
 -- The test of row 6 at a tag.
 abbrev pub mislabels : Tag → Bool
@@ -53,18 +53,18 @@ bad-size-of (too-deep h) = inl h
 bad-size-of (too-many h) = inr h
 
 -- The test of row 6 tells it.
-pub mislabels-told : (t : Tag) → Told (Mislabelled t) (mislabels t)
-mislabels-told (opens l) = told-iff (or-told (ltb-told l 1) (ltb-told labelMost l)) (bad-tag, bad-label-of)
+pub mislabels-told : (t : Tag) → IsTest (Mislabelled t) (mislabels t)
+mislabels-told (opens l) = test-iff (or-tests (ltb-tests l 1) (ltb-tests labelMost l)) (bad-tag, bad-label-of)
 mislabels-told closes = fails bad-label-of
 
 -- The test of row 7 tells it.
-pub unbalances-told : (d e : ℕ) (t : Tag) → Told (Unbalanced d e t) (unbalances d e t)
-unbalances-told d e (opens l) = told-iff (and-told (eqb-told d 0) (ltb-told 0 e)) (λ h. root-closed (h .0) (h .1), bad-place-of)
-unbalances-told d e closes = told-iff (eqb-told d 0) (nothing-open, bad-place-of)
+pub unbalances-told : (d e : ℕ) (t : Tag) → IsTest (Unbalanced d e t) (unbalances d e t)
+unbalances-told d e (opens l) = test-iff (and-tests (eqb-tests d 0) (ltb-tests 0 e)) (λ h. root-closed (h .0) (h .1), bad-place-of)
+unbalances-told d e closes = test-iff (eqb-tests d 0) (nothing-open, bad-place-of)
 
 -- The test of row 8 tells it.
-pub overfills-told : (d e : ℕ) (t : Tag) → Told (TooMuch d e t) (overfills d e t)
-overfills-told d e (opens l) = told-iff (or-told (leb-told levelsMost d) (leb-told elementsMost e)) (⊎-elim too-deep too-many, bad-size-of)
+pub overfills-told : (d e : ℕ) (t : Tag) → IsTest (TooMuch d e t) (overfills d e t)
+overfills-told d e (opens l) = test-iff (or-tests (leb-tests levelsMost d) (leb-tests elementsMost e)) (⊎-elim too-deep too-many, bad-size-of)
 overfills-told d e closes = fails bad-size-of
 
 -- The three numbers differ.

@@ -7,15 +7,15 @@ use mathlib.Core.Path.{_≡_, refl, sym, ap, ap₂, _∙_}
 use mathlib.Core.List.{List, [], _∷_, _++_, append-assoc, append-nil}
 use lib.ListN.{length, length-append, List·getD-append}
 use lib.Seq.{getD-append-add}
-use Rattle.records.specs.Tags.{Tag, opens, closes, depthFrom, labels, opened}
+use Rattle.reports.specs.Tags.{Tag, opens, closes, depthFrom, labels, openedCount}
 use Rattle.grammar.specs.Reports.{Tree, node, Forest, empty, _before_, tagsT, tagsF, sizeT, sizeF, heightT, heightF}
 use Rattle.grammar.specs.Reports.{Labelled, Within, bytesOf, tagBytes}
 use Rattle.grammar.specs.Bytes.{twoBytes}
 use Rattle.grammar.specs.Legal.{Fit, Legal}
-use Rattle.records.proofs.TagLaws.{depth-append, labels-append, opened-append}
+use Rattle.reports.proofs.TagLaws.{depth-append, labels-append, opened-append}
 use Rattle.grammar.proofs.TagRows.{OpensWell, opens-well-iff, closes-well-iff}
 use Rattle.grammar.proofs.Fits.{fit-append, fit-few, fit-labelled}
-use Rattle.records.specs.Limits.{elementsMost, levelsMost}
+use Rattle.terms.specs.Limits.{elementsMost, levelsMost}
 
 -- ---- what a tree's tags open and leave open
 
@@ -34,10 +34,10 @@ mutual
   unfolding tagsT sizeT labels
 
   -- A tree's tags open as many elements as it has.
-  pub tags-size : (t : Tree) → opened (tagsT t) ≡ sizeT t
+  pub tags-size : (t : Tree) → openedCount (tagsT t) ≡ sizeT t
   tags-size (node l f) = ap suc (opened-append (tagsF f) (closes ∷ []) ∙ add-zero _ ∙ forest-size f)
 
-  forest-size : (f : Forest) → opened (tagsF f) ≡ sizeF f
+  forest-size : (f : Forest) → openedCount (tagsF f) ≡ sizeF f
   forest-size empty = refl
   forest-size (_before_ t f) = opened-append (tagsT t) (tagsF f) ∙ ap₂ _+_ (tags-size t) (forest-size f)
 
@@ -151,8 +151,8 @@ mutual
   forest-height empty d e b h = omega arith
   forest-height (_before_ t f) d e b h =
       let p = fit-append (tagsT t) (tagsF f) d e .0 h in
-      let r : Fit d (e + opened (tagsT t)) (tagsF f) = rw (tree-depth t d) at (p .1) in
-      omega (arith, fit-height t d e b (p .0), forest-height f d (e + opened (tagsT t)) b r)
+      let r : Fit d (e + openedCount (tagsT t)) (tagsF f) = rw (tree-depth t d) at (p .1) in
+      omega (arith, fit-height t d e b (p .0), forest-height f d (e + openedCount (tagsT t)) b r)
 
 -- A tree whose tags fit is within the limits.
 fit-within : (t : Tree) → Fit 0 0 (tagsT t) → Within t
@@ -217,7 +217,7 @@ mutual
         few = omega arith;
       } in
       let g = labels-left (tagsF f) (closes ∷ []) (labelled-tail l (labels (tagsF f ++ (closes ∷ []))) m) in
-      let c = closes-well-iff (suc d) (e + 1 + opened (tagsF f)) .1 (omega arith) in (
+      let c = closes-well-iff (suc d) (e + 1 + openedCount (tagsF f)) .1 (omega arith) in (
         opens-well-iff d e l .1 w,
         fit-append (tagsF f) (closes ∷ []) (suc d) (e + 1) .1
             (forest-fit f (suc d) (e + 1) (omega arith) (omega arith) (omega arith) g, rw (forest-depth f (suc d)) (c, tt)),
@@ -227,7 +227,7 @@ mutual
   forest-fit empty d e p h n m = tt
   forest-fit (_before_ t f) d e p h n m =
       let a = tree-fit t d e (λ z. absurd (omega arith)) (omega arith) (omega arith) (labels-left (tagsT t) (tagsF f) m) in
-      let b = forest-fit f d (e + opened (tagsT t)) p (omega arith) (omega (arith, tags-size t)) (labels-right (tagsT t) (tagsF f) m) in
+      let b = forest-fit f d (e + openedCount (tagsT t)) p (omega arith) (omega (arith, tags-size t)) (labels-right (tagsT t) (tagsF f) m) in
       fit-append (tagsT t) (tagsF f) d e .1 (a, rw (tree-depth t d) b)
 
 -- The tags of a tree within the limits are legal.

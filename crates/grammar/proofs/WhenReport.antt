@@ -8,22 +8,23 @@ use mathlib.Core.List.{List}
 use mathlib.Core.Logic.{_↔_, _⊎_, inl, inr, ⊎-elim}
 use lib.Dec.{ltb, eqb}
 use lib.ListN.{length}
-use Rattle.records.specs.First.{first}
-use Rattle.records.specs.Frame.{frameOf, kindAt, broken, startOf, stopsAt}
-use Rattle.records.specs.Tags.{Tag, depth, opened, tagFault}
-use Rattle.records.specs.Report.{reportLength, tagAt, tagsBefore, recordFault, reportFault, reportStops, endOf, reportEnd}
-use Rattle.records.specs.Report.{reportAnswer, lastRecord}
-use Rattle.records.specs.declared.answer.Answer.{Answer}
-use Rattle.records.specs.declared.answer.Answer.the-variants.{Accepted, Refused}
+use Rattle.numbers.specs.First.{first}
+use Rattle.terms.specs.Frame.{frameOf, kindAt, broken, startOf, stopsAt}
+use Rattle.reports.specs.Tags.{Tag, depth, openedCount, tagFault}
+use Rattle.reports.specs.Report.{reportLength, tagAt, tagsBefore, recordFault, reportFault, reportStops, endOf, reportAnswerAt}
+use Rattle.reports.specs.Report.{reportAnswer, lastRecord}
+use Rattle.terms.specs.declared.answer.Answer.{Answer}
+use Rattle.terms.specs.declared.answer.Answer.the-variants.{Accepted, Refused}
 use Rattle.grammar.specs.When.{Faulty, Sized, Reached, Ended, Row6, Row7, Row8, AtFirst, EndsOpen, EndsWell}
-use Rattle.grammar.proofs.Tells.{Told, holds, fails, or-told, eqb-told, pick-later}
+use Rattle.numbers.proofs.Tells.{IsTest, holds, fails, or-tests, eqb-tests, pick-later}
 use Rattle.grammar.proofs.Chain.{chain, chain-numbers, chain-first-iff, chain-second-iff, chain-third-iff}
 use Rattle.grammar.proofs.Frame.{broken-told, start-far}
 use Rattle.grammar.proofs.Decides.{answers, Decided, by-end, by-fault, answer-iff, ended-first, sizeFirst}
 use Rattle.grammar.proofs.Decides.{unsized-iff, sized-iff}
 use Rattle.grammar.proofs.TagRows.{mislabels, unbalances, overfills, mislabels-told, unbalances-told, overfills-told}
 use Rattle.grammar.proofs.TagRows.{tag-fault-is, numbers-distinct}
-use Rattle.records.specs.Limits.{reportMost}
+use Rattle.terms.specs.Limits.{reportMost}
+use Rattle.terms.proofs.AnswerLaws.{Sound}
 
 -- ---- one record
 
@@ -45,8 +46,8 @@ module _ (s : List ℕ) (at d e : ℕ) where
   unfolding recordFault
   record-is = rw (tag-fault-is d e tag) (cond-or cracked (mislabels tag) (unbalances d e tag) (overfills d e tag))
 
-  row-6-told : Told (Row6 s at) row6
-  row-6-told = or-told (broken-told reportLength s at) (mislabels-told tag)
+  row-6-told : IsTest (Row6 s at) row6
+  row-6-told = or-tests (broken-told reportLength s at) (mislabels-told tag)
 
   -- A record gets number 6 exactly where row 6 applies to it.
   record-6-iff : (recordFault s at d e ≡ 6) ↔ Row6 s at
@@ -86,10 +87,10 @@ module _ (s : List ℕ) where
   -- A record that gets no number is not faulty.
   pub clean-unfaulty : (j : ℕ) → reportFault s j ≡ 0 → Faulty reportLength s (startOf s j) → ⊥
   unfolding reportFault
-  clean-unfaulty j z = record-0-iff s (startOf s j) (depth (tagsBefore s j)) (opened (tagsBefore s j)) .0 z .0
+  clean-unfaulty j z = record-0-iff s (startOf s j) (depth (tagsBefore s j)) (openedCount (tagsBefore s j)) .0 z .0
 
   abbrev ends : ℕ → Answer
-  ends i = endOf (length s) (depth (tagsBefore s i)) (opened (tagsBefore s i))
+  ends i = endOf (length s) (depth (tagsBefore s i)) (openedCount (tagsBefore s i))
 
   -- What a report of the right size is answered.
   abbrev later : Answer
@@ -99,7 +100,7 @@ module _ (s : List ℕ) where
   later-iff = answer-iff (reportFault s) s reportLength (length s) clean-unfaulty capped ends
 
   answer-is : reportAnswer s ≡ sizeFirst 5 reportMost s later
-  unfolding reportAnswer reportEnd reportStops
+  unfolding reportAnswer reportAnswerAt reportStops
   answer-is = refl
 
   -- Every answer but number 5's is given exactly where the size is right and it is that of the end or of the first record at fault.
@@ -112,21 +113,21 @@ module _ (s : List ℕ) where
 
   end-accepted-iff : (d e n : ℕ) → (endOf (length s) d e ≡ Accepted n) ↔ ((d ≡ 0) × (e ≡ n))
   unfolding endOf
-  end-accepted-iff d e n = go (eqb-told d 0) where
-    go : {b : Bool} → Told (d ≡ 0) b → (cond b (Accepted e) (Refused 7 (length s)) ≡ Accepted n) ↔ ((d ≡ 0) × (e ≡ n))
+  end-accepted-iff d e n = go (eqb-tests d 0) where
+    go : {b : Bool} → IsTest (d ≡ 0) b → (cond b (Accepted e) (Refused 7 (length s)) ≡ Accepted n) ↔ ((d ≡ 0) × (e ≡ n))
     go (holds h) = (λ q. (h, cc), λ q. cc (q .1))
     go (fails h) = (λ q. let z : _≡_ {A = ℕ} 0 1 = cc in absurd (omega arith), λ q. absurd (h (q .0)))
 
   end-refused-iff : (d e k p : ℕ) → (endOf (length s) d e ≡ Refused k p) ↔ ((k ≡ 7) × ((0 < d) × (p ≡ length s)))
   unfolding endOf
-  end-refused-iff d e k p = go (eqb-told d 0) where
-    go : {b : Bool} → Told (d ≡ 0) b → (cond b (Accepted e) (Refused 7 (length s)) ≡ Refused k p) ↔ ((k ≡ 7) × ((0 < d) × (p ≡ length s)))
+  end-refused-iff d e k p = go (eqb-tests d 0) where
+    go : {b : Bool} → IsTest (d ≡ 0) b → (cond b (Accepted e) (Refused 7 (length s)) ≡ Refused k p) ↔ ((k ≡ 7) × ((0 < d) × (p ≡ length s)))
     go (holds h) = (λ q. let z : _≡_ {A = ℕ} 0 1 = cc in absurd (omega arith), λ q. absurd (omega (arith, q .1 .0)))
     go (fails h) = (λ q. (cc, (omega arith, cc)), λ q. cc (q .0, q .1 .1))
 
   -- ---- the numbers
 
-  fault-at : (i p : ℕ) → Reached (reportFault s) s i p → reportFault s i ≡ recordFault s p (depth (tagsBefore s i)) (opened (tagsBefore s i))
+  fault-at : (i p : ℕ) → Reached (reportFault s) s i p → reportFault s i ≡ recordFault s p (depth (tagsBefore s i)) (openedCount (tagsBefore s i))
   unfolding reportFault
   fault-at i p r = rw (r .begins)
 
@@ -205,8 +206,8 @@ module _ (s : List ℕ) where
       (record-numbers s q _ _ k (sym (fault-at i q (f .reached)) ∙ b) (λ z. f .at-fault (b ∙ z)), omega (arith, f .reached .there))
 
   refused-numbers : (k p : ℕ) → reportAnswer s ≡ Refused k p → ((k ≡ 5) ⊎ ((k ≡ 6) ⊎ ((k ≡ 7) ⊎ (k ≡ 8)))) × (p ≤ length s)
-  refused-numbers k p e = go (eqb-told k 5) where
-    go : {b : Bool} → Told (k ≡ 5) b → ((k ≡ 5) ⊎ ((k ≡ 6) ⊎ ((k ≡ 7) ⊎ (k ≡ 8)))) × (p ≤ length s)
+  refused-numbers k p e = go (eqb-tests k 5) where
+    go : {b : Bool} → IsTest (k ≡ 5) b → ((k ≡ 5) ⊎ ((k ≡ 6) ⊎ ((k ≡ 7) ⊎ (k ≡ 8)))) × (p ≤ length s)
     go (holds h) = (inl h, omega (arith, report-5-iff p .0 (rw h at e) .0))
     go (fails n) =
         let r = decided-numbers k p (report-decided-iff (Refused k p) (λ q. n (cc)) .0 e .1) in (inr (r .0), r .1)
@@ -214,6 +215,15 @@ module _ (s : List ℕ) where
   -- No number but 5, 6, 7 and 8 is given to a refused report.
   pub report-numbers : (k p : ℕ) → reportAnswer s ≡ Refused k p → (k ≡ 5) ⊎ ((k ≡ 6) ⊎ ((k ≡ 7) ⊎ (k ≡ 8)))
   report-numbers k p e = refused-numbers k p e .0
+
+  -- A refusal's number is not 0.
+  pub report-answer-sound : Sound (reportAnswer s)
+  report-answer-sound = go (reportAnswer s) refl
+    where
+      go : (a : Answer) → reportAnswer s ≡ a → Sound a
+      go (Accepted n) e z = tt
+      go (Refused k p) e z =
+          ⊎-elim (λ x. omega arith) (⊎-elim (λ x. omega arith) (⊎-elim (λ x. omega arith) (λ x. omega arith))) (report-numbers k p e)
 
   -- The place of a refusal is not past the report's end.
   pub report-place : (k p : ℕ) → reportAnswer s ≡ Refused k p → p ≤ length s

@@ -5,44 +5,45 @@ use native.Mathlib.Omega.{arith}
 use native.Mathlib.Decide.{decLt}
 use mathlib.Core.Path.{_≡_, refl, subst, _∙_}
 use mathlib.Core.List.{List}
-use mathlib.Core.Logic.{_⊎_, inl, inr, _↔_, Iff·rfl, Iff·trans, Iff·and}
+use mathlib.Core.Logic.{_⊎_, inl, inr, _↔_, Iff·rfl, Iff·trans, Iff·and, ⊎-elim}
 use lib.Dec.{leb}
 use lib.ListN.{length}
-use Rattle.records.specs.First.{first}
-use Rattle.records.specs.Frame.{frameOf, kindAt, broken, startOf}
-use Rattle.records.specs.Kinds.{rowOf, ruleLength}
-use Rattle.records.specs.Rule.{entryAt, misdirected, ruleFault, ruleStops, ruleEnd, ruleAnswer, ruleFaults}
-use Rattle.records.specs.declared.answer.Answer.{Answer}
-use Rattle.records.specs.declared.answer.Answer.the-variants.{Accepted, Refused}
-use Rattle.records.specs.declared.kind.Numbers.{Numbers}
-use Rattle.records.specs.declared.kind.Numbers.the-variants.{Nothing, Label, Entries}
-use Rattle.records.specs.declared.kind.Row.{Row}
-use Rattle.records.specs.declared.rule.Entry.{Entry}
+use Rattle.numbers.specs.First.{first}
+use Rattle.terms.specs.Frame.{frameOf, kindAt, broken, startOf}
+use Rattle.terms.specs.Kinds.{rowOf, ruleLength}
+use Rattle.rules.specs.Rule.{entryAt, misdirected, ruleFault, ruleStops, ruleAnswerAt, ruleAnswer, ruleFaults}
+use Rattle.terms.specs.declared.answer.Answer.{Answer}
+use Rattle.terms.specs.declared.answer.Answer.the-variants.{Accepted, Refused}
+use Rattle.terms.specs.declared.kind.Numbers.{Numbers}
+use Rattle.terms.specs.declared.kind.Numbers.the-variants.{Nothing, Label, Entries}
+use Rattle.terms.specs.declared.kind.Row.{Row}
+use Rattle.rules.specs.declared.rule.Entry.{Entry}
 use Rattle.grammar.specs.When.{Sized, Faulty, Outside, Reached, Ended}
 use Rattle.grammar.specs.When.{Misdirected, bad-label, bad-a, bad-b, MisdirectedAt}
 use Rattle.grammar.proofs.Chain.{Distinct, chain-numbers, chain-first-iff, chain-second-iff, chain-third-iff, chain-none-iff}
 use Rattle.grammar.proofs.Decides.{Decided, by-end, by-fault, answer-iff, unsized-iff, sized-iff, size-cases}
 use Rattle.grammar.proofs.Frame.{broken-told}
-use Rattle.grammar.proofs.Tells.{Told, fails, told-iff, or-told, and-told, ltb-told, leb-told}
-use Rattle.records.specs.Limits.{entriesMost, labelMost, ruleMost}
+use Rattle.numbers.proofs.Tells.{IsTest, fails, test-iff, or-tests, and-tests, ltb-tests, leb-tests}
+use Rattle.terms.specs.Limits.{entriesMost, labelMost, ruleMost}
+use Rattle.terms.proofs.AnswerLaws.{Sound}
 
 -- ---- the fault of one record
 
 module _ (row : Row) (own : ℕ) (e : Entry) where
-  misdirected-told-at : (h : Numbers) → row .numbers ≡ h → Told (Misdirected row own e) (misdirected h (row .arguments) own e)
+  misdirected-told-at : (h : Numbers) → row .numbers ≡ h → IsTest (Misdirected row own e) (misdirected h (row .arguments) own e)
   unfolding misdirected
   misdirected-told-at Nothing q = fails never where
     never : Misdirected row own e → ⊥
     never (bad-label l o) = let z : _≡_ {A = ℕ} 0 1 = cc in omega arith
     never (bad-a l o) = let z : _≡_ {A = ℕ} 0 1 = cc in omega arith
     never (bad-b l t o) = let z : _≡_ {A = ℕ} 0 1 = cc in omega arith
-  misdirected-told-at Label q = told-iff (or-told (ltb-told (e .a) 1) (ltb-told labelMost (e .a))) (bad-label q, back) where
+  misdirected-told-at Label q = test-iff (or-tests (ltb-tests (e .a) 1) (ltb-tests labelMost (e .a))) (bad-label q, back) where
     back : Misdirected row own e → Outside (e .a)
     back (bad-label l o) = o
     back (bad-a l o) = let z : _≡_ {A = ℕ} 0 1 = cc in absurd (omega arith)
     back (bad-b l t o) = let z : _≡_ {A = ℕ} 0 1 = cc in absurd (omega arith)
   misdirected-told-at Entries q =
-      told-iff (or-told (leb-told own (e .a)) (and-told (leb-told 2 (row .arguments)) (leb-told own (e .b)))) (there, back) where
+      test-iff (or-tests (leb-tests own (e .a)) (and-tests (leb-tests 2 (row .arguments)) (leb-tests own (e .b)))) (there, back) where
         there : (own ≤ e .a) ⊎ ((2 ≤ row .arguments) × (own ≤ e .b)) → Misdirected row own e
         there (inl o) = bad-a q o
         there (inr (t, o)) = bad-b q t o
@@ -53,14 +54,14 @@ module _ (row : Row) (own : ℕ) (e : Entry) where
         back (bad-b l t o) = inr (t, o)
 
   -- The test of row 3 passes exactly where an entry is misdirected.
-  misdirected-told : Told (Misdirected row own e) (misdirected (row .numbers) (row .arguments) own e)
+  misdirected-told : IsTest (Misdirected row own e) (misdirected (row .numbers) (row .arguments) own e)
   misdirected-told = misdirected-told-at (row .numbers) refl
 
 module _ (s : List ℕ) (own at : ℕ) where
-  broken-at : Told (Faulty ruleLength s at) (broken (frameOf s at (rowOf (kindAt s at) .length)))
+  broken-at : IsTest (Faulty ruleLength s at) (broken (frameOf s at (rowOf (kindAt s at) .length)))
   broken-at = broken-told ruleLength s at
 
-  misdirected-at : Told (MisdirectedAt s own at) (misdirected (rowOf (kindAt s at) .numbers) (rowOf (kindAt s at) .arguments) own (entryAt s at))
+  misdirected-at : IsTest (MisdirectedAt s own at) (misdirected (rowOf (kindAt s at) .numbers) (rowOf (kindAt s at) .arguments) own (entryAt s at))
   misdirected-at = misdirected-told (rowOf (kindAt s at)) own (entryAt s at)
 
   distinct : Distinct 4 2 3
@@ -80,22 +81,22 @@ module _ (s : List ℕ) (own at : ℕ) where
   -- A record gets 4 exactly where it is the 65th or a later one.
   fault-4-iff : (ruleFault s own at ≡ 4) ↔ (entriesMost ≤ own)
   unfolding ruleFault
-  fault-4-iff = chain-first-iff 4 2 3 distinct (leb-told entriesMost own) broken-at misdirected-at
+  fault-4-iff = chain-first-iff 4 2 3 distinct (leb-tests entriesMost own) broken-at misdirected-at
 
   -- A record gets 2 exactly where it is one of the first 64 and faulty.
   fault-2-iff : (ruleFault s own at ≡ 2) ↔ ((own < entriesMost) × Faulty ruleLength s at)
   unfolding ruleFault
-  fault-2-iff = Iff·trans (chain-second-iff 4 2 3 distinct (leb-told entriesMost own) broken-at misdirected-at) (Iff·and under Iff·rfl)
+  fault-2-iff = Iff·trans (chain-second-iff 4 2 3 distinct (leb-tests entriesMost own) broken-at misdirected-at) (Iff·and under Iff·rfl)
 
   -- A record gets 3 exactly where it is one of the first 64, not faulty, and misdirected.
   fault-3-iff : (ruleFault s own at ≡ 3) ↔ ((own < entriesMost) × ((Faulty ruleLength s at → ⊥) × MisdirectedAt s own at))
   unfolding ruleFault
-  fault-3-iff = Iff·trans (chain-third-iff 4 2 3 distinct (leb-told entriesMost own) broken-at misdirected-at) (Iff·and under Iff·rfl)
+  fault-3-iff = Iff·trans (chain-third-iff 4 2 3 distinct (leb-tests entriesMost own) broken-at misdirected-at) (Iff·and under Iff·rfl)
 
   -- A record gets no number exactly where none of these is so.
   pub fault-0-iff : (ruleFault s own at ≡ 0) ↔ ((own < entriesMost) × ((Faulty ruleLength s at → ⊥) × (MisdirectedAt s own at → ⊥)))
   unfolding ruleFault
-  fault-0-iff = Iff·trans (chain-none-iff 4 2 3 distinct (leb-told entriesMost own) broken-at misdirected-at) (Iff·and under Iff·rfl)
+  fault-0-iff = Iff·trans (chain-none-iff 4 2 3 distinct (leb-tests entriesMost own) broken-at misdirected-at) (Iff·and under Iff·rfl)
 
   -- A record at fault gets 4, 2 or 3.
   fault-numbers : (k : ℕ) → ruleFault s own at ≡ k → (k ≡ 0 → ⊥) → (k ≡ 4) ⊎ ((k ≡ 2) ⊎ (k ≡ 3))
@@ -117,8 +118,8 @@ module _ (s : List ℕ) where
         | no l ↦ omega arith
       ]
 
-  later-iff : (a : Answer) → (ruleEnd s (first (ruleStops s) entriesMost) ≡ a) ↔ Decided (ruleFaults s) s Accepted a
-  unfolding ruleEnd ruleStops
+  later-iff : (a : Answer) → (ruleAnswerAt s (first (ruleStops s) entriesMost) ≡ a) ↔ Decided (ruleFaults s) s Accepted a
+  unfolding ruleAnswerAt ruleStops
   later-iff a = answer-iff (ruleFaults s) s ruleLength entriesMost rule-sound (λ i clean l. rule-capped i clean) Accepted a
 
   refused-there : (k p : ℕ) → Decided (ruleFaults s) s Accepted (Refused k p)
@@ -199,6 +200,15 @@ module _ (s : List ℕ) where
     go : (Refused 1 0 ≡ Refused k p) ⊎ Decided (ruleFaults s) s Accepted (Refused k p) → (k ≡ 1) ⊎ ((k ≡ 2) ⊎ ((k ≡ 3) ⊎ (k ≡ 4)))
     go (inl q) = inl (cc)
     go (inr d) = later (later-numbers k p d)
+
+  -- A refusal's number is not 0.
+  pub rule-answer-sound : Sound (ruleAnswer s)
+  rule-answer-sound = go (ruleAnswer s) refl
+    where
+      go : (a : Answer) → ruleAnswer s ≡ a → Sound a
+      go (Accepted n) e z = tt
+      go (Refused k p) e z =
+          ⊎-elim (λ x. omega arith) (⊎-elim (λ x. omega arith) (⊎-elim (λ x. omega arith) (λ x. omega arith))) (rule-numbers k p e)
 
   -- The place of a refusal is 0 or lies within the rule.
   pub rule-place : (k p : ℕ) → ruleAnswer s ≡ Refused k p → p ≤ length s

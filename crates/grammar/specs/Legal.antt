@@ -7,13 +7,13 @@ use mathlib.Core.Bool.{_&&_}
 use mathlib.Core.List.{List, [], _∷_}
 use lib.Dec.{ltb, eqb}
 use lib.ListN.{length, getD}
-use Rattle.records.specs.Tags.{Tag, depthFrom, opened, tagFault}
-use Rattle.records.specs.Limits.{elementsMost}
+use Rattle.reports.specs.Tags.{Tag, depthFrom, openedCount, tagFault}
+use Rattle.terms.specs.Limits.{elementsMost}
 
 -- No tag gets a number, where d elements are open and e have been opened before the tags.
 unfoldable pub Fit : ℕ → ℕ → List Tag → Type 0
 Fit d e [] = Unit
-Fit d e (t ∷ ts) = (tagFault d e (eqb d 0 && ltb 0 e) t ≡ 0) × Fit (depthFrom d (t ∷ [])) (e + opened (t ∷ [])) ts
+Fit d e (t ∷ ts) = (tagFault d e (eqb d 0 && ltb 0 e) t ≡ 0) × Fit (depthFrom d (t ∷ [])) (e + openedCount (t ∷ [])) ts
 
 -- No tag gets a number, and at the end nothing is open.
 pub record Legal (d e : ℕ) (ts : List Tag) : Type 0 where

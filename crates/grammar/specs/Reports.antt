@@ -4,9 +4,9 @@
 use Prim.Native.Nat.{ℕ, suc, _+_, _≤_, _<_, max}
 use mathlib.Core.List.{List, [], _∷_, _++_}
 use lib.ListN.{length, getD}
-use Rattle.records.specs.Tags.{Tag, opens, closes, labels}
+use Rattle.reports.specs.Tags.{Tag, opens, closes, labels}
 use Rattle.grammar.specs.Bytes.{twoBytes}
-use Rattle.records.specs.Limits.{labelMost, elementsMost, levelsMost}
+use Rattle.terms.specs.Limits.{labelMost, elementsMost, levelsMost}
 
 -- The bytes of a tag's record, and of a sequence of tags.
 unfoldable pub tagBytes : Tag → List ℕ

@@ -6,11 +6,11 @@ use mathlib.Core.Bool.{cond}
 use mathlib.Core.List.{List, [], _∷_, _++_}
 use lib.Dec.{leb}
 use lib.ListN.{length, getD}
-use Rattle.records.specs.Kinds.{rowOf}
-use Rattle.records.specs.declared.rule.Entry.{Entry}
+use Rattle.terms.specs.Kinds.{rowOf}
+use Rattle.rules.specs.declared.rule.Entry.{Entry}
 use Rattle.grammar.specs.Bytes.{twoBytes}
 use Rattle.grammar.specs.When.{Misdirected}
-use Rattle.records.specs.Limits.{entriesMost}
+use Rattle.terms.specs.Limits.{entriesMost}
 
 -- The entry of kind 0, which is no kind: what stands for an entry where there is none.
 abbrev pub noEntry : Entry

@@ -5,16 +5,16 @@ use mathlib.Core.Path.{_≡_}
 use mathlib.Core.Logic.{_⊎_}
 use mathlib.Core.List.{List}
 use lib.ListN.{length}
-use Rattle.records.specs.Bytes.{numberAt}
-use Rattle.records.specs.Frame.{kindAt, startOf}
-use Rattle.records.specs.Kinds.{rowOf}
-use Rattle.records.specs.Report.{reportLength, tagAt, tagsBefore, reportFault}
-use Rattle.records.specs.Rule.{entryAt}
-use Rattle.records.specs.Tags.{Tag, opens, closes, depth, opened}
-use Rattle.records.specs.declared.kind.Numbers.the-variants.{Label, Entries}
-use Rattle.records.specs.declared.kind.Row.{Row}
-use Rattle.records.specs.declared.rule.Entry.{Entry}
-use Rattle.records.specs.Limits.{labelMost, elementsMost, levelsMost}
+use Rattle.numbers.specs.Bytes.{numberAt}
+use Rattle.terms.specs.Frame.{kindAt, startOf}
+use Rattle.terms.specs.Kinds.{rowOf}
+use Rattle.reports.specs.Report.{reportLength, tagAt, tagsBefore, reportFault}
+use Rattle.rules.specs.Rule.{entryAt}
+use Rattle.reports.specs.Tags.{Tag, opens, closes, depth, openedCount}
+use Rattle.terms.specs.declared.kind.Numbers.the-variants.{Label, Entries}
+use Rattle.terms.specs.declared.kind.Row.{Row}
+use Rattle.rules.specs.declared.rule.Entry.{Entry}
+use Rattle.terms.specs.Limits.{labelMost, elementsMost, levelsMost}
 
 -- Rows 1 and 5 do not apply: the string has 1 byte or more, and not more than `most`.
 pub record Sized (most : ℕ) (s : List ℕ) : Type 0 where
@@ -88,7 +88,7 @@ pub record Row8 (s : List ℕ) (at depth elements : ℕ) : Type 0 where
 -- A row applies at the first record with a fault, which begins at p: `row` takes where the record begins, how many elements are open
 -- before it, and how many have been opened.
 abbrev pub AtFirst : List ℕ → ℕ → (ℕ → ℕ → ℕ → Type 0) → Type 0
-AtFirst s p row = (i : ℕ) × Reached (reportFault s) s i p × row p (depth (tagsBefore s i)) (opened (tagsBefore s i))
+AtFirst s p row = (i : ℕ) × Reached (reportFault s) s i p × row p (depth (tagsBefore s i)) (openedCount (tagsBefore s i))
 
 -- Row 7 at the end: no record has a fault, and the report ends with an element open; the place is its length.
 abbrev pub EndsOpen : List ℕ → ℕ → Type 0
@@ -96,4 +96,4 @@ EndsOpen s p = (i : ℕ) × Ended (reportFault s) s i × (0 < depth (tagsBefore 
 
 -- Row 0: no record has a fault, and the report ends with no element open and n opened.
 abbrev pub EndsWell : List ℕ → ℕ → Type 0
-EndsWell s n = (i : ℕ) × Ended (reportFault s) s i × (depth (tagsBefore s i) ≡ 0) × (opened (tagsBefore s i) ≡ n)
+EndsWell s n = (i : ℕ) × Ended (reportFault s) s i × (depth (tagsBefore s i) ≡ 0) × (openedCount (tagsBefore s i) ≡ n)

@@ -10,12 +10,11 @@ use mathlib.Core.List.{List, _++_}
 use mathlib.Core.Logic.{⊎-elim, inr}
 use lib.ListN.{length, getD, take, drop, length-drop, length-append, List·getD-append}
 use lib.Seq.{length-take-le, take-append-le, drop-append-le}
-use Rattle.records.specs.Bytes.{numberAt}
-use Rattle.records.specs.Rule.{ruleAnswer}
-use Rattle.records.specs.Report.{reportAnswer}
-use Rattle.records.specs.Tables.{entriesOf}
-use Rattle.records.specs.declared.answer.Answer.{Answer}
-use Rattle.records.specs.declared.answer.Answer.the-variants.{Accepted, Refused}
+use Rattle.numbers.specs.Bytes.{numberAt}
+use Rattle.rules.specs.Rule.{ruleAnswer}
+use Rattle.reports.specs.Report.{reportAnswer}
+use Rattle.terms.specs.declared.answer.Answer.{Answer}
+use Rattle.terms.specs.declared.answer.Answer.the-variants.{Accepted, Refused}
 use Rattle.grammar.proofs.WhenRule.{rule-1-iff, rule-numbers}
 use Rattle.grammar.proofs.WhenReport.{report-5-iff}
 use Rattle.meaning.specs.Marks.{selected}
@@ -24,7 +23,8 @@ use Rattle.text.specs.Text.{refusedLine}
 use Rattle.judge.specs.Input.{ruleEnd, ruleIn, reportIn}
 use Rattle.judge.specs.Output.{room, toldAs, judgedRecord, splitRecord, recordOf}
 use Rattle.judge.proofs.SplitLaws.{split-long, split-fits}
-use Rattle.records.specs.Limits.{reportMost, ruleMost}
+use Rattle.terms.specs.Limits.{reportMost, ruleMost}
+use Rattle.rules.specs.Entries.{entriesOf}
 
 -- ---- what a refusal is told as
 

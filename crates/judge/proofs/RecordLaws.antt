@@ -9,20 +9,16 @@ use mathlib.Core.Logic.{⊎-elim}
 use lib.Dec.{eqb}
 use lib.ListN.{length, getD}
 use lib.Seq.{length-sets}
-use Rattle.records.specs.Answer.{countOf, Accepts}
-use Rattle.records.specs.Rule.{ruleAnswer}
-use Rattle.records.specs.Report.{reportAnswer}
-use Rattle.records.specs.Tables.{entriesOf, labelsOf, levelsOf, over}
-use Rattle.records.specs.declared.answer.Answer.{Answer}
-use Rattle.records.specs.declared.answer.Answer.the-variants.{Accepted, Refused}
-use Rattle.records.proofs.TableLaws.{over-at}
-use Rattle.records.proofs.WalkLaws.{taken-lists}
+use Rattle.terms.specs.Answer.{countOf, Accepts}
+use Rattle.rules.specs.Rule.{ruleAnswer}
+use Rattle.reports.specs.Report.{reportAnswer}
+use Rattle.terms.specs.declared.answer.Answer.{Answer}
+use Rattle.terms.specs.declared.answer.Answer.the-variants.{Accepted, Refused}
 use Rattle.grammar.proofs.WhenRule.{rule-numbers}
 use Rattle.grammar.proofs.WhenReport.{report-numbers}
 use Rattle.grammar.proofs.Entries.{entries-count, entries-some}
 use Rattle.grammar.proofs.Elements.{elements-count, levels-elements, elements-few}
 use Rattle.meaning.specs.Marks.{wordOf, verdict, selected}
-use Rattle.meaning.proofs.Words.{pred-sub}
 use Rattle.layout.specs.Layout.{LaidOut}
 use Rattle.layout.proofs.LayoutLaws.{room-for-any}
 use Rattle.marking.specs.Evaluation.{judged, evaluation, meantWords, Evaluated, ColumnsAfter, ReportMarked}
@@ -33,7 +29,13 @@ use Rattle.marking.proofs.Means.{counted, word-is}
 use Rattle.text.specs.Text.{lineOf, elementLines, acceptedLines, acceptedText, headerLine, closingLine, refusedLine}
 use Rattle.text.specs.Rendered.{verdictIn, clamped, tableText, putAt, Rendered}
 use Rattle.judge.specs.Output.{room, acceptedRecord, toldAs, judgedRecord}
-use Rattle.records.specs.Limits.{elementsMost}
+use Rattle.terms.specs.Limits.{elementsMost}
+use Rattle.rules.specs.Entries.{entriesOf}
+use Rattle.reports.specs.Elements.{labelsOf, levelsOf}
+use Rattle.numbers.specs.Lists.{listed, over}
+use Rattle.numbers.proofs.Lists.{over-at}
+use Rattle.reports.proofs.ElementLaws.{taken-lists}
+use Rattle.numbers.proofs.BitLaws.{pred-sub}
 
 -- ---- lines that agree
 
@@ -41,7 +43,7 @@ module _ (labels levels labels′ levels′ : List ℕ) (v v′ : ℕ → Bool) 
   -- Tables that agree on the first n elements have the same lines for these.
   pub lines-same : (n : ℕ) → ((k : ℕ) → k < n → lineOf labels levels v k ≡ lineOf labels′ levels′ v′ k)
       → elementLines labels levels v n ≡ elementLines labels′ levels′ v′ n
-  unfolding elementLines
+  unfolding elementLines listed
   lines-same zero same = refl
   lines-same (suc n) same =
       ap (λ (ls : List (List ℕ)). ls ++ (lineOf labels levels v n ∷ [])) (lines-same n (λ k h. same k (omega arith)))

@@ -6,7 +6,7 @@ use mathlib.Core.Bool.{true, false, cond}
 use mathlib.Core.List.{List}
 use lib.Dec.{ltb}
 use lib.ListN.{length, take, drop}
-use Rattle.records.specs.Bytes.{numberAt}
+use Rattle.numbers.specs.Bytes.{numberAt}
 use Rattle.judge.specs.declared.split.Halves.{Halves}
 
 -- Where the rule ends: past the two bytes of its length, and so many bytes more.

@@ -6,14 +6,15 @@ use mathlib.Core.Bool.{cond}
 use mathlib.Core.List.{List}
 use lib.Dec.{eqb}
 use lib.ListN.{length}
-use Rattle.records.specs.Tables.{entriesOf, labelsOf, levelsOf}
 use Rattle.meaning.specs.Marks.{verdict, selected}
 use Rattle.marking.specs.Evaluation.{evaluation, meantWords}
 use Rattle.marking.specs.declared.report.Evaluation.{Evaluation}
 use Rattle.text.specs.Text.{refusedLine, acceptedText}
 use Rattle.judge.specs.Input.{splitOf, ruleIn, reportIn}
 use Rattle.judge.specs.declared.split.Halves.{Halves}
-use Rattle.records.specs.Limits.{elementsMost}
+use Rattle.terms.specs.Limits.{elementsMost}
+use Rattle.rules.specs.Entries.{entriesOf}
+use Rattle.reports.specs.Elements.{labelsOf, levelsOf}
 
 -- How many elements the program has room for: as many as a report may have, so that 9 is never printed.
 abbrev pub room : ℕ

@@ -6,7 +6,7 @@ ghost use Rattle.judge.specs.Input.{ruleIn, reportIn};
 ghost use Rattle.judge.specs.Output.{judgedRecord, recordOf};
 use crate::split::split;
 use marking::report::mark_report;
-use records::limits::ELEMENTS_MOST;
+use terms::limits::ELEMENTS_MOST;
 use text::put::TEXT_BYTES;
 use text::render::put_accepted;
 use text::render::put_refused;

@@ -12,14 +12,11 @@ use mathlib.Core.Option.{Option, none, some}
 use lib.Dec.{ltb}
 use lib.ListN.{length, getD, take, drop, length-append, List·getD-append}
 use lib.Seq.{take-append-seam, getD-at, ext-getD, length-take-le}
-use Rattle.records.specs.Answer.{countOf}
-use Rattle.records.specs.Report.{reportAnswer}
-use Rattle.records.specs.Tables.{ElementsTaken, labelsOf, levelsOf, over}
-use Rattle.records.specs.Limits.{elementsMost}
-use Rattle.records.specs.declared.answer.Answer.{Answer}
-use Rattle.records.specs.declared.answer.Answer.the-variants.{Accepted, Refused}
-use Rattle.records.proofs.TableLaws.{over-kept, over-length, over-is, accepts-of}
-use Rattle.records.proofs.WalkLaws.{taken-lists}
+use Rattle.terms.specs.Answer.{countOf}
+use Rattle.reports.specs.Report.{reportAnswer}
+use Rattle.terms.specs.Limits.{elementsMost}
+use Rattle.terms.specs.declared.answer.Answer.{Answer}
+use Rattle.terms.specs.declared.answer.Answer.the-variants.{Accepted, Refused}
 use Rattle.grammar.specs.Legal.{LegalLevels}
 use Rattle.grammar.proofs.Elements.{elements-count, levels-elements, levels-legal, elements-few}
 use Rattle.grammar.proofs.Sizes.{accepted-size}
@@ -28,6 +25,11 @@ use Rattle.meaning.proofs.Links.{Down, parent-down, previous-down}
 use Rattle.layout.specs.Links.{numberFor, numbersBelow, parents, previousSiblings, leadsTo, leads, Leads, Linked}
 use Rattle.layout.specs.Layout.{leastOf, roomIn, withRoom, LaidOut}
 use Rattle.layout.proofs.LinkLaws.{leads-at}
+use Rattle.reports.specs.Elements.{ElementsTaken, labelsOf, levelsOf}
+use Rattle.numbers.specs.Lists.{over}
+use Rattle.numbers.proofs.Lists.{over-kept, over-length, over-is}
+use Rattle.terms.proofs.AnswerLaws.{accepts-of}
+use Rattle.reports.proofs.ElementLaws.{taken-lists}
 
 -- ---- the numbers of elements
 

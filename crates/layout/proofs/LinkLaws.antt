@@ -13,12 +13,12 @@ use borrow.Author.Tests.{lt-ltb, le-ltb, le-leb, ne-eqb}
 use lib.ListN.{length, getD, set, drop, replicate, length-set, length-drop, length-replicate, List·getD-eq-default}
 use lib.Seq.{getD-set-same, getD-set-other}
 use Rattle.grammar.specs.Legal.{LegalLevels}
-use Rattle.grammar.proofs.Tells.{ltb-told}
+use Rattle.numbers.proofs.Tells.{ltb-tests}
 use Rattle.meaning.specs.Links.{lastUpTo, ifLevel, parentAt, parent, previous}
 use Rattle.meaning.proofs.Links.{Last, last-here, last-past, level-iff, guard-iff, Down, parent-is, parent-within, previous-within}
 use Rattle.meaning.proofs.Tests.{Finds}
 use Rattle.layout.specs.Links.{leadsTo, leads, Leads, Linked, upOf, leftOf}
-use Rattle.records.specs.Limits.{levelsMost}
+use Rattle.terms.specs.Limits.{levelsMost}
 
 -- ---- where a column leads
 
@@ -42,7 +42,7 @@ leads-past f s l = rw (List·getD-eq-default f s l, le-ltb s s (omega arith))
 pub leads-down : (f : List ℕ) → Down (leads f)
 unfolding leads
 leads-down f s t e =
-    let h = guard-iff (some (getD f s s)) t (ltb-told (getD f s s) s) .0 e in
+    let h = guard-iff (some (getD f s s)) t (ltb-tests (getD f s s) s) .0 e in
     let z : getD f s s ≡ t = cc (h .1) in omega (arith, h .0)
 
 pub leads-inside : (f : List ℕ) (s t : ℕ) → leads f s ≡ some t → s < length f
@@ -56,7 +56,7 @@ leads-inside f s t e =
 pub leads-number : (f : List ℕ) (s t d : ℕ) → leads f s ≡ some t → getD f s d ≡ t
 unfolding leads
 leads-number f s t d e =
-    let h = guard-iff (some (getD f s s)) t (ltb-told (getD f s s) s) .0 e in
+    let h = guard-iff (some (getD f s s)) t (ltb-tests (getD f s s) s) .0 e in
     getD-any f s d s (leads-inside f s t e) ∙ cc (h .1)
 
 pub number-leads : (f : List ℕ) (s t d : ℕ) → s < length f → t < s → getD f s d ≡ t → leads f s ≡ some t

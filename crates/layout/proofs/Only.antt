@@ -3,9 +3,10 @@
 use Prim.Native.Nat.{ℕ}
 use mathlib.Core.Path.{_≡_}
 use mathlib.Core.List.{List}
-use Rattle.records.specs.declared.answer.Answer.{Answer}
-use Rattle.records.proofs.Only.{only, read-elements-only}
+use Rattle.terms.specs.declared.answer.Answer.{Answer}
 use Rattle.layout.specs.Layout.{LaidOut}
+use Rattle.numbers.proofs.Only.{only}
+use Rattle.reports.proofs.Only.{read-elements-only}
 
 pub laid-out-only : (report labels levels ups lefts : List ℕ) {r r′ : Answer} {l l′ d d′ u u′ f f′ : List ℕ}
     → LaidOut report labels levels ups lefts r l d u f → LaidOut report labels levels ups lefts r′ l′ d′ u′ f′

@@ -7,9 +7,10 @@ use mathlib.Core.Bool.{cond}
 use mathlib.Core.List.{List, []}
 use lib.Dec.{ltb}
 use lib.ListN.{length}
-use Rattle.records.specs.Tables.{levelsOf, over, ElementsTaken}
-use Rattle.records.specs.declared.answer.Answer.{Answer}
+use Rattle.terms.specs.declared.answer.Answer.{Answer}
 use Rattle.layout.specs.Links.{parents, previousSiblings}
+use Rattle.reports.specs.Elements.{levelsOf, ElementsTaken}
+use Rattle.numbers.specs.Lists.{over}
 
 -- The lower of two numbers.
 unfoldable pub leastOf : ℕ → ℕ → ℕ

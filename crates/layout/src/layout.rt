@@ -3,13 +3,13 @@ ghost use mathlib.Core.Path.{_≡_};
 ghost use Prim.Native.Nat.{_≤_};
 ghost use lib.ListN.{length, take};
 ghost use Rattle.grammar.specs.Legal.{LegalLevels};
-ghost use Rattle.records.specs.Tables.{over};
 ghost use Rattle.layout.specs.Links.{parents, previousSiblings};
 ghost use Rattle.layout.specs.Layout.{LaidOut};
 use crate::columns::least_of_four;
 use crate::links::link;
-use records::answer::Answer;
-use records::tables::read_elements;
+use terms::answer::Answer;
+use reports::elements::read_elements;
+ghost use Rattle.numbers.specs.Lists.{over};
 
 // Links the first n elements.
 fn link_first(n: usize, levels: &[u16], ups: &mut [u16], lefts: &mut [u16])

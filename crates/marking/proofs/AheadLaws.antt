@@ -14,9 +14,9 @@ use borrow.Author.Tests.{lt-ltb, le-ltb, eq-eqb, ne-eqb}
 use lib.Bits.{bitOr}
 use lib.Dec.{ltb, eqb}
 use lib.ListN.{length, getD, set, List·getD-eq-default}
-use Rattle.grammar.proofs.Tells.{and-one, holds, told-same, true-iff, eqb-told, and-told}
+use Rattle.numbers.proofs.Tells.{and-one, holds, test-same, true-iff, eqb-tests, and-tests}
 use Rattle.meaning.specs.Tree.{forward}
-use Rattle.meaning.specs.Marks.{at, anyBelow, bit, bitAt, someOf}
+use Rattle.meaning.specs.Marks.{at, anyBelow, someOf}
 use Rattle.meaning.proofs.Ways.{at-iff}
 use Rattle.meaning.proofs.Tests.{ahead, at-told, some-told, bool-told}
 use Rattle.layout.specs.Links.{leads}
@@ -27,6 +27,7 @@ use Rattle.marking.specs.declared.ahead.AskedAhead.the-variants.{Until, 
 use Rattle.layout.proofs.LinkLaws.{getD-any, leads-at, leads-down, leads-number, number-leads, leads-finds}
 use Rattle.marking.proofs.PassLaws.{at-put, passed-start, passed-same, passed-bit, passed-under, passed-join, passed-set}
 use Rattle.marking.proofs.StepLaws.{at-leads, ahead-own, anyFrom, anyFrom-end, anyFrom-next, anyFrom-all}
+use Rattle.numbers.specs.Bits.{bit, bitAt}
 
 or-false : (x : Bool) → (x || false) ≡ x
 or-false true = refl
@@ -43,7 +44,7 @@ module _ (f : List ℕ) (t : ℕ) (l : t < length f) where
   nearest-child : ((s c : ℕ) → leads f c ≡ some s → leads f (suc s) ≡ some s)
       → eqb (getD f (suc t) (length f)) t ≡ someOf forward (length f) (leads f) (λ c. true) t
   nearest-child near =
-      told-same (eqb-told (getD f (suc t) (length f)) t) (some-told (ahead (leads-finds f)) t (λ c q. holds (tt {0}))) (
+      test-same (eqb-tests (getD f (suc t) (length f)) t) (some-told (ahead (leads-finds f)) t (λ c q. holds (tt {0}))) (
         λ e. elim (decLt (suc t) (length f)) [
           | yes m ↦ (suc t, number-leads f (suc t) t (length f) m (omega arith) e, tt)
           | no h ↦ absurd (omega (arith, List·getD-eq-default f (length f) {n = suc t} (omega arith)))
@@ -148,7 +149,7 @@ module _ (asked : AskedAhead) (f before : List ℕ) (a b : ℕ) where
   -- Who gives to s comes after it.
   gives-after : (s c : ℕ) → gives-to s c ≡ true → suc s ≤ c
   gives-after s c e =
-      let h = true-iff (and-told (at-told {P = λ u. u ≡ s} (leads f c) (λ u q. eqb-told u s)) (bool-told (gives c))) .0 e in
+      let h = true-iff (and-tests (at-told {P = λ u. u ≡ s} (leads f c) (λ u q. eqb-tests u s)) (bool-told (gives c))) .0 e in
       let r = at-iff (leads f c) (λ u. u ≡ s) .0 (h .0) in omega (arith, leads-down f c (r .0) (r .1), r .2)
 
   module _ {i : ℕ} (room : Room (length f) i before) (la : a < i) (lb : b < i) (nearest : Nearest asked f) (t : ℕ) (l : t < length f) where

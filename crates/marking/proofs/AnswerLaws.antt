@@ -11,31 +11,34 @@ use mathlib.Core.Logic.{⊎-elim}
 use lib.Dec.{ltb, eqb}
 use lib.ListN.{length, take}
 use lib.Seq.{length-take-le}
-use Rattle.records.specs.Answer.{countOf, placeOf}
-use Rattle.records.specs.Rule.{ruleAnswer}
-use Rattle.records.specs.Report.{reportAnswer}
-use Rattle.records.specs.Tables.{EntriesTaken, entriesOf, labelsOf, levelsOf, over, kindOf, aOf, bOf}
-use Rattle.records.specs.declared.answer.Answer.{Answer}
-use Rattle.records.specs.declared.answer.Answer.the-variants.{Accepted, Refused}
-use Rattle.records.specs.declared.rule.Entry.{Entry}
-use Rattle.records.specs.Limits.{elementsMost, entriesMost, reportMost}
-use Rattle.records.proofs.Bounds.{rule-small}
-use Rattle.records.proofs.TableLaws.{over-kept}
-use Rattle.records.proofs.WalkLaws.{entries-taken-all}
+use Rattle.terms.specs.Answer.{countOf, placeOf}
+use Rattle.rules.specs.Rule.{ruleAnswer}
+use Rattle.reports.specs.Report.{reportAnswer}
+use Rattle.terms.specs.declared.answer.Answer.{Answer}
+use Rattle.terms.specs.declared.answer.Answer.the-variants.{Accepted, Refused}
+use Rattle.rules.specs.declared.rule.Entry.{Entry}
+use Rattle.terms.specs.Limits.{elementsMost, entriesMost, reportMost}
 use Rattle.grammar.specs.Columns.{tableOf}
 use Rattle.grammar.specs.Rules.{RuleEntries}
 use Rattle.grammar.proofs.Columns.{table-of-columns}
 use Rattle.grammar.proofs.WhenRule.{rule-numbers}
 use Rattle.grammar.proofs.WhenReport.{report-numbers}
 use Rattle.grammar.proofs.Entries.{entries-count, entries-few, rule-entries}
-use Rattle.meaning.specs.Marks.{words, selected, bitAt}
-use Rattle.meaning.proofs.Words.{bit-small, words-length}
+use Rattle.meaning.specs.Marks.{words, selected}
+use Rattle.meaning.proofs.Words.{words-length}
 use Rattle.layout.specs.Layout.{leastOf, roomIn, LaidOut}
 use Rattle.layout.proofs.LayoutLaws.{filled-length, least-within, within-least, laid-room, ElementsLaid, elements-laid}
 use Rattle.marking.specs.Evaluation.{accepted, refused, judged, meantWords, evaluation, written, Evaluated, roomFor, ColumnsAfter, ReportMarked, MarkedBy}
 use Rattle.marking.specs.Pass.{Marked}
 use Rattle.marking.specs.declared.report.Evaluation.{Evaluation}
 use Rattle.marking.specs.declared.report.Marking.{Marking}
+use Rattle.rules.specs.Entries.{EntriesTaken, entriesOf, kindOf, aOf, bOf}
+use Rattle.reports.specs.Elements.{labelsOf, levelsOf}
+use Rattle.numbers.specs.Lists.{over}
+use Rattle.rules.proofs.EntryLaws.{rule-small, entries-taken-all}
+use Rattle.numbers.proofs.Lists.{over-kept}
+use Rattle.numbers.specs.Bits.{bitAt}
+use Rattle.numbers.proofs.BitLaws.{bit-small}
 
 -- ---- the selected count is no more than there are words
 

@@ -9,28 +9,26 @@ use mathlib.Core.Bool.{Bool, true, false, not, xor, _&&_, _||_}
 use mathlib.Core.List.{List}
 use lib.ListN.{length, getD, take}
 use lib.Seq.{ext-getD, take-at, take-suc}
-use Rattle.records.specs.declared.rule.Entry.{Entry}
-use Rattle.records.specs.Tables.{over}
-use Rattle.records.proofs.Rows.{numbers-are}
-use Rattle.records.proofs.TableLaws.{over-is, over-length, over-at, over-past}
+use Rattle.rules.specs.declared.rule.Entry.{Entry}
+use Rattle.terms.proofs.Rows.{numbers-are}
 use Rattle.grammar.specs.Legal.{LegalLevels}
 use Rattle.grammar.specs.Rules.{noEntry, RuleEntries}
 use Rattle.grammar.proofs.Entries.{formed-kind, formed-entries, formed-a, formed-b}
-use Rattle.grammar.proofs.Tells.{Told, told-same}
-use Rattle.records.specs.declared.kind.Axis.{Axis}
-use Rattle.records.specs.declared.kind.Axis.the-variants.{Child as child, Parent as parent, Next as next, Previous as previous}
+use Rattle.numbers.proofs.Tells.{IsTest, test-same}
+use Rattle.terms.specs.declared.kind.Axis.{Axis}
+use Rattle.terms.specs.declared.kind.Axis.the-variants.{Child as child, Parent as parent, Next as next, Previous as previous}
 use Rattle.meaning.specs.Tree.{direction}
 use Rattle.meaning.specs.Links.{link}
-use Rattle.records.specs.declared.kind.Shape.{Shape}
-use Rattle.records.specs.declared.kind.Shape.the-variants.{Nothing as nothing, Here as here, SomeAlong as someAlong, UntilAlong as untilAlong, EveryChild as everyChild}
-use Rattle.records.specs.declared.kind.Local.{Local}
-use Rattle.records.specs.declared.kind.Numbers.the-variants.{Entries}
-use Rattle.records.specs.Kinds.{shapeOf, numbersOf, leadsBack}
-use Rattle.meaning.specs.Marks.{bit, bitAt, meansHere, means, mark, word, wordOf, words, selected, wordBits}
+use Rattle.terms.specs.declared.kind.Shape.{Shape}
+use Rattle.terms.specs.declared.kind.Shape.the-variants.{Nothing as nothing, Here as here, SomeAlong as someAlong, UntilAlong as untilAlong, EveryChild as everyChild}
+use Rattle.terms.specs.declared.kind.Local.{Local}
+use Rattle.terms.specs.declared.kind.Numbers.the-variants.{Entries}
+use Rattle.terms.specs.Kinds.{shapeOf, numbersOf, leadsBack}
+use Rattle.meaning.specs.Marks.{meansHere, means, mark, wordOf, words, selected}
 use Rattle.meaning.proofs.Tests.{bool-told}
 use Rattle.meaning.proofs.Reflect.{means-told}
 use Rattle.meaning.proofs.OneStep.{mark-rule, plain}
-use Rattle.meaning.proofs.Words.{pred-sub, bit-small, word-bit, word-lt, words-length, words-at, selected-more}
+use Rattle.meaning.proofs.Words.{words-length, words-at, selected-more}
 use Rattle.layout.specs.Links.{leads, Linked}
 use Rattle.marking.specs.Pass.{Stored, Passed, Room, bitsOf, Marked}
 use Rattle.marking.specs.Steps.{alongMark, columnOf, aheadMark, Nearest}
@@ -39,7 +37,11 @@ use Rattle.marking.specs.declared.ahead.AskedAhead.the-variants.{Every}
 use Rattle.layout.proofs.LinkLaws.{ups-all, lefts-all, parent-next}
 use Rattle.marking.proofs.PassLaws.{stored-start, stored-same, passed-start}
 use Rattle.grammar.proofs.Columns.{table-length, table-at}
-use Rattle.records.specs.Limits.{entriesMost}
+use Rattle.terms.specs.Limits.{entriesMost}
+use Rattle.numbers.specs.Lists.{over}
+use Rattle.numbers.proofs.Lists.{over-is, over-length, over-at, over-past}
+use Rattle.numbers.specs.Bits.{bit, bitAt, word, wordBits}
+use Rattle.numbers.proofs.BitLaws.{pred-sub, bit-small, word-bit, word-lt}
 
 -- ---- the table of passes
 
@@ -137,9 +139,9 @@ means-same : (levels labels : List ℕ) (k : Shape) (l : ℕ) (a a′ b b′ : �
     → ((t : ℕ) → t < length levels → a t ≡ a′ t) → ((t : ℕ) → t < length levels → b t ≡ b′ t) → (s : ℕ) → s < length levels
     → means levels labels k l a b s ≡ means levels labels k l a′ b′ s
 means-same levels labels k l a a′ b b′ ea eb s h =
-    told-same (means-told levels labels l _ _ a b (λ t m. bool-told (a t)) (λ t m. bool-told (b t)) s h k)
-    (means-told levels labels l (λ t. a t ≡ true) (λ t. b t ≡ true) a′ b′ (λ t m. subst (Told (a t ≡ true)) (ea t m) (bool-told (a t)))
-    (λ t m. subst (Told (b t ≡ true)) (eb t m) (bool-told (b t))) s h k)
+    test-same (means-told levels labels l _ _ a b (λ t m. bool-told (a t)) (λ t m. bool-told (b t)) s h k)
+    (means-told levels labels l (λ t. a t ≡ true) (λ t. b t ≡ true) a′ b′ (λ t m. subst (IsTest (a t ≡ true)) (ea t m) (bool-told (a t)))
+    (λ t m. subst (IsTest (b t ≡ true)) (eb t m) (bool-told (b t))) s h k)
     (λ x. x, λ x. x)
 
 module _ (levels labels : List ℕ) (entries : List Entry) where

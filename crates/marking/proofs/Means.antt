@@ -11,22 +11,25 @@ use mathlib.Core.List.{List, []}
 use mathlib.Core.Logic.{⊎-elim, _↔_}
 use lib.Dec.{ltb, eqb}
 use lib.ListN.{length, getD}
-use Rattle.records.specs.Answer.{countOf}
-use Rattle.records.specs.Rule.{ruleAnswer}
-use Rattle.records.specs.Report.{reportAnswer}
-use Rattle.records.specs.Tables.{entriesOf, labelsOf, levelsOf, over}
-use Rattle.records.specs.declared.answer.Answer.{Answer}
-use Rattle.records.specs.declared.answer.Answer.the-variants.{Accepted, Refused}
-use Rattle.records.proofs.TableLaws.{over-at, over-past}
+use Rattle.terms.specs.Answer.{countOf}
+use Rattle.rules.specs.Rule.{ruleAnswer}
+use Rattle.reports.specs.Report.{reportAnswer}
+use Rattle.terms.specs.declared.answer.Answer.{Answer}
+use Rattle.terms.specs.declared.answer.Answer.the-variants.{Accepted, Refused}
 use Rattle.grammar.proofs.WhenRule.{rule-numbers}
 use Rattle.grammar.proofs.WhenReport.{report-numbers}
 use Rattle.grammar.proofs.Elements.{levels-elements}
 use Rattle.meaning.specs.Meaning.{Holds}
-use Rattle.meaning.specs.Marks.{bitAt, wordOf, words, selected, verdict}
+use Rattle.meaning.specs.Marks.{wordOf, words, selected, verdict}
 use Rattle.meaning.proofs.Words.{words-length, words-at, countBelow, selected-words}
 use Rattle.meaning.proofs.Reflect.{word-iff}
 use Rattle.marking.specs.Evaluation.{judged, meantWords, evaluation, written, Evaluated}
 use Rattle.marking.specs.declared.report.Evaluation.{Evaluation}
+use Rattle.rules.specs.Entries.{entriesOf}
+use Rattle.reports.specs.Elements.{labelsOf, levelsOf}
+use Rattle.numbers.specs.Lists.{over}
+use Rattle.numbers.proofs.Lists.{over-at, over-past}
+use Rattle.numbers.specs.Bits.{bitAt}
 
 module _ (rule report marks : List ℕ) (r : Evaluation) (after : List ℕ) (e : Evaluated rule report marks r after) (zero : r .number ≡ 0) where
   -- Accepted: the counts are those of the meaning, and the buffer has room.

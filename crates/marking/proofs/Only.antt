@@ -4,14 +4,14 @@
 use Prim.Native.Nat.{ℕ}
 use mathlib.Core.Path.{_≡_, refl, ap₂}
 use mathlib.Core.List.{List}
-use Rattle.records.specs.Rule.{ruleAnswer}
-use Rattle.records.specs.declared.answer.Answer.{Answer}
-use Rattle.records.specs.declared.answer.Answer.the-variants.{Accepted, Refused}
-use Rattle.records.proofs.Only.{only}
+use Rattle.rules.specs.Rule.{ruleAnswer}
+use Rattle.terms.specs.declared.answer.Answer.{Answer}
+use Rattle.terms.specs.declared.answer.Answer.the-variants.{Accepted, Refused}
 use Rattle.layout.proofs.Only.{laid-out-only}
 use Rattle.marking.specs.Evaluation.{ColumnsAfter, ReportMarked, Evaluated}
 use Rattle.marking.specs.declared.report.Evaluation.{Evaluation}
 use Rattle.marking.specs.declared.report.Marking.{Marking}
+use Rattle.numbers.proofs.Only.{only}
 
 pub evaluated-only : (rule report marks : List ℕ) {r r′ : Evaluation} {m m′ : List ℕ} → Evaluated rule report marks r m
     → Evaluated rule report marks r′ m′ → (r ≡ r′) × (m ≡ m′)

@@ -13,11 +13,11 @@ use lib.Dec.{ltb, eqb}
 use lib.ListN.{length, getD, set, length-set}
 use lib.Pow.{low}
 use lib.Seq.{getD-set-same, getD-set-other}
-use Rattle.meaning.specs.Marks.{bit, bitAt}
-use Rattle.meaning.proofs.Words.{bit-top, bit-under}
 use Rattle.marking.specs.Pass.{Stored, Passed, Room, bitsOf}
 use Rattle.marking.proofs.WordLaws.{joined-bit}
-use Rattle.records.specs.Limits.{elementsMost}
+use Rattle.terms.specs.Limits.{elementsMost}
+use Rattle.numbers.specs.Bits.{bit, bitAt}
+use Rattle.numbers.proofs.BitLaws.{bit-top, bit-under}
 
 -- The values w, with v at t.
 abbrev pub at-put : {A : Type 0} → (ℕ → A) → (t : ℕ) → A → ℕ → A

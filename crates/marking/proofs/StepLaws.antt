@@ -10,9 +10,9 @@ use mathlib.Core.Logic.{inl, inr, ⊎-elim}
 use mathlib.Core.Option.{Option, none, some}
 use lib.Dec.{leb, ltb}
 use lib.ListN.{length, getD}
-use Rattle.grammar.proofs.Tells.{Told, fails, told-same, leb-told, or-told, and-told}
+use Rattle.numbers.proofs.Tells.{IsTest, fails, test-same, leb-tests, or-tests, and-tests}
 use Rattle.meaning.specs.Tree.{forward, backward}
-use Rattle.meaning.specs.Marks.{at, anyBelow, bitAt, someOf, everyOf}
+use Rattle.meaning.specs.Marks.{at, anyBelow, someOf, everyOf}
 use Rattle.meaning.proofs.Tests.{Finds, ahead, behind, bool-told, any-told, until-is}
 use Rattle.layout.specs.Links.{leads, leadsTo}
 use Rattle.marking.specs.Pass.{Passed, Room, bitsOf}
@@ -22,6 +22,7 @@ use Rattle.marking.specs.declared.ahead.AskedAhead.the-variants.{Until, 
 use Rattle.marking.specs.declared.local.Inverted.{Inverted}
 use Rattle.layout.proofs.LinkLaws.{leads-at, leads-finds}
 use Rattle.marking.proofs.PassLaws.{before-only, ascent-word, passed-bit, passed-under}
+use Rattle.numbers.specs.Bits.{bitAt}
 
 -- At the element that a number leads to.
 pub at-leads : (s number : ℕ) (m : ℕ → Bool) → at (leadsTo s number) m ≡ (ltb number s && m number)
@@ -79,18 +80,18 @@ unfoldable pub anyFrom : ℕ → (ℕ → Bool) → ℕ → Bool
 anyFrom n p t = anyBelow n (λ c. leb t c && p c)
 
 module _ (n : ℕ) (p : ℕ → Bool) where
-  from-told : (t : ℕ) → Told ((c : ℕ) × (c < n) × ((t ≤ c) × (p c ≡ true))) (anyFrom n p t)
+  from-told : (t : ℕ) → IsTest ((c : ℕ) × (c < n) × ((t ≤ c) × (p c ≡ true))) (anyFrom n p t)
   unfolding anyFrom
-  from-told t = any-told n (λ c l. and-told (leb-told t c) (bool-told (p c)))
+  from-told t = any-told n (λ c l. and-tests (leb-tests t c) (bool-told (p c)))
 
   -- Not from the end on.
   pub anyFrom-end : anyFrom n p n ≡ false
-  anyFrom-end = told-same (from-told n) (fails (λ x. x)) (λ r. omega (arith, r .1, r .2 .0), λ x. absurd x)
+  anyFrom-end = test-same (from-told n) (fails (λ x. x)) (λ r. omega (arith, r .1, r .2 .0), λ x. absurd x)
 
   -- From one number lower on: there, or from the number on.
   pub anyFrom-next : (t : ℕ) → t < n → anyFrom n p t ≡ (anyFrom n p (suc t) || p t)
   anyFrom-next t l =
-      told-same (from-told t) (or-told (from-told (suc t)) (bool-told (p t))) (
+      test-same (from-told t) (or-tests (from-told (suc t)) (bool-told (p t))) (
         λ r. ⊎-elim (λ e. inr (subst (λ (c : ℕ). p c ≡ true) (sym e) (r .2 .1))) (λ h. inl (r .0, r .1, (h, r .2 .1))) (eq-or-lt-of-le (r .2 .0)),
         ⊎-elim (λ r. (r .0, r .1, (omega (arith, r .2 .0), r .2 .1))) (λ e. (t, l, (omega arith, e))),
       )
@@ -98,4 +99,4 @@ module _ (n : ℕ) (p : ℕ → Bool) where
   -- Anywhere, where p passes from t on only.
   pub anyFrom-all : (t : ℕ) → ((c : ℕ) → p c ≡ true → t ≤ c) → anyFrom n p t ≡ anyBelow n p
   anyFrom-all t h =
-      told-same (from-told t) (any-told n (λ c l. bool-told (p c))) (λ r. (r .0, r .1, r .2 .1), λ r. (r .0, r .1, (h (r .0) (r .2), r .2)))
+      test-same (from-told t) (any-told n (λ c l. bool-told (p c))) (λ r. (r .0, r .1, r .2 .1), λ r. (r .0, r .1, (h (r .0) (r .2), r .2)))

@@ -7,10 +7,10 @@ use mathlib.Core.Bool.{Bool, true, false, xor, _&&_, _||_}
 use lib.Dec.{eqb}
 use lib.Bits.{bitAnd, bitOr, bitXor, and-comm, and-zero-l, and-mask, or-shifted-r, or-block, or-zero-r, and-mod, or-mod, xor-mod}
 use lib.Pow.{pow-pos, shl-exact}
-use Rattle.meaning.specs.Marks.{bit, wordBits}
-use Rattle.meaning.proofs.Words.{bit-small, bit-told}
 use Rattle.marking.specs.Steps.{gateMark}
 use Rattle.marking.specs.declared.local.Inverted.{Inverted}
+use Rattle.numbers.specs.Bits.{bit, wordBits}
+use Rattle.numbers.proofs.BitLaws.{bit-small, bit-told}
 
 -- 1 shifted by i fits a word, and is 1 or more.
 pub one-shifted : (i : ℕ) → i < wordBits → (1 ≤ (1 * 2 ^ i) % 2 ^ wordBits) × ((1 * 2 ^ i) % 2 ^ wordBits ≡ 2 ^ i)

@@ -8,17 +8,19 @@ use mathlib.Core.Bool.{cond}
 use mathlib.Core.List.{List, []}
 use lib.Dec.{ltb, eqb}
 use lib.ListN.{length}
-use Rattle.records.specs.Answer.{countOf}
-use Rattle.records.specs.Rule.{ruleAnswer}
-use Rattle.records.specs.Report.{reportAnswer}
-use Rattle.records.specs.Tables.{entriesOf, labelsOf, levelsOf, over}
-use Rattle.records.specs.declared.answer.Answer.{Answer}
-use Rattle.records.specs.declared.rule.Entry.{Entry}
-use Rattle.records.specs.declared.answer.Answer.the-variants.{Accepted, Refused}
+use Rattle.terms.specs.Answer.{countOf}
+use Rattle.rules.specs.Rule.{ruleAnswer}
+use Rattle.reports.specs.Report.{reportAnswer}
+use Rattle.terms.specs.declared.answer.Answer.{Answer}
+use Rattle.rules.specs.declared.rule.Entry.{Entry}
+use Rattle.terms.specs.declared.answer.Answer.the-variants.{Accepted, Refused}
 use Rattle.meaning.specs.Marks.{words, selected}
 use Rattle.layout.specs.Layout.{leastOf, roomIn, LaidOut}
 use Rattle.marking.specs.declared.report.Evaluation.{Evaluation}
 use Rattle.marking.specs.declared.report.Marking.{Marking}
+use Rattle.rules.specs.Entries.{entriesOf}
+use Rattle.reports.specs.Elements.{labelsOf, levelsOf}
+use Rattle.numbers.specs.Lists.{over}
 
 -- Accepted: number 0, place 0, how many elements there are and how many are selected.
 abbrev pub accepted : ℕ → ℕ → Evaluation

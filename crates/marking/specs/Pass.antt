@@ -6,11 +6,11 @@ use mathlib.Core.Path.{_≡_}
 use mathlib.Core.Bool.{Bool}
 use mathlib.Core.List.{List}
 use lib.ListN.{length, getD}
-use Rattle.records.specs.declared.rule.Entry.{Entry}
-use Rattle.records.specs.Tables.{over}
-use Rattle.meaning.specs.Marks.{bit, bitAt, words, selected}
-use Rattle.records.specs.Limits.{elementsMost}
-use Rattle.meaning.specs.Marks.{wordBits}
+use Rattle.rules.specs.declared.rule.Entry.{Entry}
+use Rattle.meaning.specs.Marks.{words, selected}
+use Rattle.terms.specs.Limits.{elementsMost}
+use Rattle.numbers.specs.Lists.{over}
+use Rattle.numbers.specs.Bits.{bit, bitAt, wordBits}
 
 -- The first n words after are w, and the others are as before.
 pub record Stored (n : ℕ) (w : ℕ → ℕ) (before after : List ℕ) : Type 0 where

@@ -8,8 +8,8 @@ use mathlib.Core.Path.{_≡_}
 use mathlib.Core.Bool.{Bool, true, false, cond, not, xor, _&&_, _||_}
 use mathlib.Core.List.{List}
 use mathlib.Core.Option.{Option, some}
-use Rattle.records.specs.declared.kind.Axis.{Axis}
-use Rattle.records.specs.declared.kind.Axis.the-variants.{Child, Parent, Next, Previous}
+use Rattle.terms.specs.declared.kind.Axis.{Axis}
+use Rattle.terms.specs.declared.kind.Axis.the-variants.{Child, Parent, Next, Previous}
 use Rattle.meaning.specs.Tree.{Direction, forward}
 use Rattle.meaning.specs.Marks.{someOf, everyOf, untilOf}
 use Rattle.layout.specs.Links.{leads}

@@ -5,7 +5,7 @@ ghost use mathlib.Core.Bool.{_&&_};
 ghost use Prim.Native.Nat.{ℕ, _≤_, _<_};
 ghost use lib.ListN.{length, getD};
 ghost use Rattle.meaning.specs.Tree.{forward};
-ghost use Rattle.meaning.specs.Marks.{bitAt, someOf, wordBits};
+ghost use Rattle.meaning.specs.Marks.{someOf};
 ghost use Rattle.layout.specs.Links.{leads};
 ghost use Rattle.marking.specs.Pass.{Passed, Room, bitsOf};
 ghost use Rattle.marking.specs.Steps.{ownStep, givenStep, aheadMark, Nearest};
@@ -15,6 +15,7 @@ use crate::word::put_bit;
 use crate::word::put_number;
 use crate::word::with_bit;
 use layout::columns::wide;
+ghost use Rattle.numbers.specs.Bits.{bitAt, wordBits};
 
 // What is asked by turns of the elements ahead: a mark at the end of a way (kinds 10 and 12), at every
 // one of at least one (14).

@@ -5,13 +5,13 @@ ghost use Prim.Native.Nat.{ℕ, _*_, _^_, _≤_, _<_};
 ghost use lib.Bits.{bitOr};
 ghost use lib.ListN.{length, getD};
 ghost use Rattle.meaning.specs.Tree.{backward};
-ghost use Rattle.meaning.specs.Marks.{bit, bitAt, wordBits};
 ghost use Rattle.layout.specs.Links.{leads};
 ghost use Rattle.marking.specs.Pass.{Passed, Room, bitsOf};
 ghost use Rattle.marking.specs.Steps.{backStep, alongMark};
 use crate::word::bit_where;
 use crate::word::put_number;
 use layout::columns::wide;
+ghost use Rattle.numbers.specs.Bits.{bit, bitAt, wordBits};
 
 // As a number, whether the word w has bit b, or bit a and, where `there`, the word v bit i.
 fn until_mark(a: usize, b: usize, i: usize, there: bool, v: u64, w: u64) -> u64

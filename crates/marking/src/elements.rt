@@ -8,7 +8,7 @@ ghost use Rattle.meaning.specs.Marks.{selected};
 ghost use Rattle.layout.specs.Links.{Linked};
 ghost use Rattle.marking.specs.Pass.{Stored, Marked};
 ghost use Rattle.grammar.specs.Columns.{tableOf};
-ghost use Rattle.records.specs.Limits.{entriesMost};
+ghost use Rattle.terms.specs.Limits.{entriesMost};
 use crate::entry::mark_entries;
 use crate::word::bit_at;
 

@@ -4,8 +4,8 @@ ghost use Prim.Native.Nat.{ℕ, _≤_, _<_};
 ghost use lib.ListN.{length, getD};
 ghost use Rattle.grammar.specs.Legal.{LegalLevels};
 ghost use Rattle.grammar.specs.Rules.{RuleEntries};
-ghost use Rattle.records.specs.Kinds.{numbersOf};
-ghost use Rattle.records.specs.declared.kind.Numbers.the-variants.{Entries};
+ghost use Rattle.terms.specs.Kinds.{numbersOf};
+ghost use Rattle.terms.specs.declared.kind.Numbers.the-variants.{Entries};
 ghost use Rattle.meaning.specs.Tree.{direction};
 ghost use Rattle.meaning.specs.Marks.{means, wordOf};
 ghost use Rattle.layout.specs.Links.{leads, Linked};
@@ -18,10 +18,10 @@ use crate::ahead::turn_pass;
 use crate::back::back_pass;
 use crate::local::local_pass;
 use layout::columns::wide;
-use records::kind::Axis;
-use records::kind::Shape;
-use records::kind::leads_back;
-use records::kind::row_of;
+use terms::kind::Axis;
+use terms::kind::Shape;
+use terms::kind::leads_back;
+use terms::kind::row_of;
 
 // The column of an axis: where each element's parent is, or its previous sibling.
 fn column<'a>(x: Axis, ups: &'a [u16], lefts: &'a [u16]) -> &'a [u16]

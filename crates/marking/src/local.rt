@@ -3,14 +3,15 @@ ghost use mathlib.Core.Path.{_≡_};
 ghost use Prim.Native.Nat.{_<_};
 ghost use lib.Dec.{eqb};
 ghost use lib.ListN.{length, getD};
-ghost use Rattle.records.specs.Kinds.{localNumbers};
-ghost use Rattle.records.specs.declared.kind.Numbers.the-variants.{Entries};
-ghost use Rattle.meaning.specs.Marks.{bitAt, meansHere, wordBits};
+ghost use Rattle.terms.specs.Kinds.{localNumbers};
+ghost use Rattle.terms.specs.declared.kind.Numbers.the-variants.{Entries};
+ghost use Rattle.meaning.specs.Marks.{meansHere};
 ghost use Rattle.marking.specs.Pass.{Passed, Room, bitsOf};
 ghost use Rattle.marking.specs.Steps.{gateMark};
 use crate::word::put_bit;
 use layout::columns::wide;
-use records::kind::Local;
+use terms::kind::Local;
+ghost use Rattle.numbers.specs.Bits.{bitAt, wordBits};
 
 // What kinds 1, 3, 4 and 5 make of two bits is a gate: an and, with the first bit, the second and the
 // outcome each inverted or not. So an entry's loop has no branch, and takes several elements at once.

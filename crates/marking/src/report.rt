@@ -4,15 +4,15 @@ ghost use Prim.Native.Nat.{_≤_};
 ghost use lib.ListN.{length};
 ghost use Rattle.grammar.specs.Columns.{tableOf};
 ghost use Rattle.grammar.specs.Rules.{RuleEntries};
-ghost use Rattle.records.specs.Limits.{reportMost};
+ghost use Rattle.terms.specs.Limits.{reportMost};
 ghost use Rattle.marking.specs.Evaluation.{refused, MarkedBy, ReportMarked};
 use crate::elements::mark_elements;
 use layout::columns::least;
 use layout::columns::least_of_four;
 use layout::layout::lay_out;
-use records::answer::Answer;
-use records::limits::ENTRIES_MOST;
-use records::tables::read_entries;
+use terms::answer::Answer;
+use terms::limits::ENTRIES_MOST;
+use rules::table::read_entries;
 
 // What a whole report is answered: document 01's number, the place, how many elements there are and
 // how many of them are selected. Refused: elements and selected are 0.

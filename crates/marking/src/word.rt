@@ -3,7 +3,7 @@ ghost use mathlib.Core.Path.{_≡_};
 ghost use mathlib.Core.Bool.{_&&_};
 ghost use Prim.Native.Nat.{_+_, _*_, _^_, _%_, _<_};
 ghost use lib.Bits.{bitOr};
-ghost use Rattle.meaning.specs.Marks.{bit, bitAt, wordBits};
+ghost use Rattle.numbers.specs.Bits.{bit, bitAt, wordBits};
 
 // Bit a of a word.
 pub(crate) fn bit_at(w: u64, a: usize) -> bool

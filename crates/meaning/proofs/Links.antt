@@ -12,14 +12,14 @@ use mathlib.Core.Logic.{_↔_, ⊎-elim}
 use mathlib.Core.Option.{Option, none, some}
 use borrow.Author.Tests.{le-ltb, le-leb, lt-leb, eq-eqb}
 use lib.ListN.{length, getD}
-use Rattle.grammar.proofs.Tells.{Told, holds, fails, ltb-told, leb-told, eqb-told}
-use Rattle.records.specs.declared.kind.Axis.{Axis}
-use Rattle.records.specs.declared.kind.Axis.the-variants.{Child as child, Parent as toParent, Next as next, Previous as toPrevious}
+use Rattle.numbers.proofs.Tells.{IsTest, holds, fails, ltb-tests, leb-tests, eqb-tests}
+use Rattle.terms.specs.declared.kind.Axis.{Axis}
+use Rattle.terms.specs.declared.kind.Axis.the-variants.{Child as child, Parent as toParent, Next as next, Previous as toPrevious}
 use Rattle.meaning.specs.Tree.{Child, Next}
 use Rattle.meaning.specs.Links.{lastUpTo, ifLevel, parentAt, parent, previous, link}
 
 -- A chosen value is t exactly where the test passes and the value is t.
-pub guard-iff : {P : Type 0} {b : Bool} (o : Option ℕ) (t : ℕ) → Told P b → (cond b o none ≡ some t) ↔ (P × (o ≡ some t))
+pub guard-iff : {P : Type 0} {b : Bool} (o : Option ℕ) (t : ℕ) → IsTest P b → (cond b o none ≡ some t) ↔ (P × (o ≡ some t))
 guard-iff o t (holds p) = (λ e. (p, e), λ h. h .1)
 guard-iff o t (fails n) = (λ e. let z : _≡_ {A = ℕ} 0 1 = cc in absurd (omega arith), λ h. absurd (n (h .0)))
 
@@ -44,7 +44,7 @@ module _ (levels : List ℕ) where
             ⊎-elim (λ e. subst (λ (x : ℕ). d < getD levels x 0) (sym e) (omega arith)) (r .between k a) (eq-or-lt-of-le (le-of-suc-le-suc b));
       }
 
-  last-pick : {b : Bool} (d s t : ℕ) (o : Option ℕ) → Told (getD levels s 0 ≤ d) b → (o ≡ some t → Last d s t)
+  last-pick : {b : Bool} (d s t : ℕ) (o : Option ℕ) → IsTest (getD levels s 0 ≤ d) b → (o ≡ some t → Last d s t)
       → cond b (some s) o ≡ some t → Last d (suc s) t
   last-pick d s t o (holds l) h e = let z : s ≡ t = cc in subst (Last d (suc s)) z (last-here d s l)
   last-pick d s t o (fails n) h e = last-past d s t n (h e)
@@ -52,7 +52,7 @@ module _ (levels : List ℕ) where
   last-sound : (d s t : ℕ) → lastUpTo levels d s ≡ some t → Last d s t
   unfolding lastUpTo
   last-sound d zero t e = let z : _≡_ {A = ℕ} 0 1 = cc in absurd (omega arith)
-  last-sound d (suc s) t e = last-pick d s t (lastUpTo levels d s) (leb-told (getD levels s 0) d) (last-sound d s t) e
+  last-sound d (suc s) t e = last-pick d s t (lastUpTo levels d s) (leb-tests (getD levels s 0) d) (last-sound d s t) e
 
   last-complete : (d s t : ℕ) → Last d s t → lastUpTo levels d s ≡ some t
   unfolding lastUpTo
@@ -63,7 +63,7 @@ module _ (levels : List ℕ) where
       (last-complete d s t (record { before = l; low = r .low; between = λ k a b. r .between k a (omega arith) })))
       (eq-or-lt-of-le (le-of-suc-le-suc (r .before)))
 
-  last-there-more : {b : Bool} (d s c : ℕ) → Told (getD levels s 0 ≤ d) b → c < suc s → getD levels c 0 ≤ d
+  last-there-more : {b : Bool} (d s c : ℕ) → IsTest (getD levels s 0 ≤ d) b → c < suc s → getD levels c 0 ≤ d
       → (c < s → (t : ℕ) × Last d s t) → (t : ℕ) × Last d (suc s) t
   last-there-more d s c (holds l) b m h = (s, last-here d s l)
   last-there-more d s c (fails n) b m h =
@@ -72,7 +72,7 @@ module _ (levels : List ℕ) where
   -- Where an element before s has a level of at most d, there is a last one.
   pub last-there : (d s c : ℕ) → c < s → getD levels c 0 ≤ d → (t : ℕ) × Last d s t
   last-there d zero c b m = absurd (not-suc-le-zero b)
-  last-there d (suc s) c b m = last-there-more d s c (leb-told (getD levels s 0) d) b m (λ l. last-there d s c l m)
+  last-there d (suc s) c b m = last-there-more d s c (leb-tests (getD levels s 0) d) b m (λ l. last-there d s c l m)
 
   -- No later element before s has a level of at most d.
   pub last-latest : (d s t c : ℕ) → Last d s t → c < s → getD levels c 0 ≤ d → c ≤ t
@@ -85,7 +85,7 @@ module _ (levels : List ℕ) where
     go : (o : Option ℕ) → lastUpTo levels d s ≡ o → ifLevel levels d o ≡ some t → Last d s t × (getD levels t 0 ≡ d)
     go none e h = let z : _≡_ {A = ℕ} 0 1 = cc in absurd (omega arith)
     go (some u) e h =
-        let r = guard-iff (some u) t (eqb-told (getD levels u 0) d) .0 h in
+        let r = guard-iff (some u) t (eqb-tests (getD levels u 0) d) .0 h in
         let z : u ≡ t = cc (r .1) in
         (last-sound d s t (e ∙ ap some z), subst (λ (x : ℕ). getD levels x 0 ≡ d) z (r .0))
 
@@ -93,7 +93,7 @@ module _ (levels : List ℕ) where
   pub previous-is : (s q : ℕ) → (previous levels s ≡ some q) ↔ Next levels q s
   unfolding previous
   previous-is s q =
-      let g = guard-iff (ifLevel levels (getD levels s 0) (lastUpTo levels (getD levels s 0) s)) q (ltb-told s (length levels)) in
+      let g = guard-iff (ifLevel levels (getD levels s 0) (lastUpTo levels (getD levels s 0) s)) q (ltb-tests s (length levels)) in
       let f = level-iff (getD levels s 0) s q in (
         λ e. let h = g .0 e in
             let r = f .0 (h .1) in
@@ -116,7 +116,7 @@ module _ (levels : List ℕ) where
   pub parent-is : (s p : ℕ) → (parent levels s ≡ some p) ↔ Child levels p s
   unfolding parent
   parent-is s p =
-      let g = guard-iff (parentAt levels (getD levels s 0) s) p (ltb-told s (length levels)) in
+      let g = guard-iff (parentAt levels (getD levels s 0) s) p (ltb-tests s (length levels)) in
       let f = above-iff (getD levels s 0) s p refl in (
         λ e. let h = g .0 e in
             let r = f .0 (h .1) in

@@ -10,23 +10,23 @@ use mathlib.Core.List.{List, [], _∷_, _++_}
 use mathlib.Core.Option.{Option, none, some}
 use lib.Dec.{eqb}
 use lib.ListN.{length, getD, List·getD-eq-default}
-use Rattle.records.specs.declared.rule.Entry.{Entry}
-use Rattle.records.specs.Tags.{Tag, opens, depth, levelsFrom, levels, labels, opened}
-use Rattle.records.proofs.TagLaws.{levels-append, labels-append, levels-count}
-use Rattle.records.proofs.First.{clash}
+use Rattle.rules.specs.declared.rule.Entry.{Entry}
+use Rattle.reports.specs.Tags.{Tag, opens, depth, levelsFrom, levels, labels, openedCount}
+use Rattle.reports.proofs.TagLaws.{levels-append, labels-append, levels-count}
+use Rattle.numbers.proofs.First.{clash}
 use Rattle.grammar.specs.Rules.{noEntry}
 use Rattle.meaning.specs.Links.{link}
-use Rattle.records.specs.declared.kind.Axis.{Axis}
+use Rattle.terms.specs.declared.kind.Axis.{Axis}
 use Rattle.meaning.specs.Tree.{backward, direction}
-use Rattle.records.specs.declared.kind.Shape.{Shape}
-use Rattle.records.specs.declared.kind.Shape.the-variants.{Nothing as nothing, Here as local, SomeAlong as someAlong, UntilAlong as untilAlong, EveryChild as everyChild}
-use Rattle.records.specs.Kinds.{rowOf, shapeOf, leadsBack, shapeLooksBack}
+use Rattle.terms.specs.declared.kind.Shape.{Shape}
+use Rattle.terms.specs.declared.kind.Shape.the-variants.{Nothing as nothing, Here as local, SomeAlong as someAlong, UntilAlong as untilAlong, EveryChild as everyChild}
+use Rattle.terms.specs.Kinds.{rowOf, shapeOf, leadsBack, shapeLooksBack}
 use Rattle.meaning.specs.Marks.{at, someOf, untilOf, means, below, mark, wordOf}
 use Rattle.meaning.specs.OnePass.{LooksBack}
 use Rattle.meaning.proofs.Links.{Agree, link-prefix}
 use Rattle.meaning.proofs.Tests.{found-down, until-is}
 use Rattle.meaning.proofs.Reflect.{axis-along}
-use Rattle.meaning.proofs.Words.{word-same}
+use Rattle.numbers.proofs.BitLaws.{word-same}
 
 -- Tests that agree at the element that is found pass alike there.
 at-same : (o : Option ℕ) (p q : ℕ → Bool) → ((t : ℕ) → o ≡ some t → p t ≡ q t) → at o p ≡ at o q
@@ -123,8 +123,8 @@ module _ (entries : List Entry) (back : LooksBack entries) where
 
   -- The element that opens after some tags has the same marks whatever tags come after its opening.
   pub mark-begun : (ts : List Tag) (l : ℕ) (more more′ : List Tag) (i : ℕ)
-      → mark (levels (ts ++ (opens l ∷ more))) (labels (ts ++ (opens l ∷ more))) entries i (opened ts)
-      ≡ mark (levels (ts ++ (opens l ∷ more′))) (labels (ts ++ (opens l ∷ more′))) entries i (opened ts)
+      → mark (levels (ts ++ (opens l ∷ more))) (labels (ts ++ (opens l ∷ more))) entries i (openedCount ts)
+      ≡ mark (levels (ts ++ (opens l ∷ more′))) (labels (ts ++ (opens l ∷ more′))) entries i (openedCount ts)
   unfolding levelsFrom labels
   mark-begun ts l more more′ i =
       rw (levels-append 0 ts (opens l ∷ more), levels-append 0 ts (opens l ∷ more′))

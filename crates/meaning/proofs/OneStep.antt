@@ -10,10 +10,10 @@ use mathlib.Core.List.{List}
 use mathlib.Core.Logic.{⊎-elim}
 use borrow.Author.Tests.{eq-eqb, ne-eqb}
 use lib.ListN.{length, getD}
-use Rattle.records.specs.declared.rule.Entry.{Entry}
+use Rattle.rules.specs.declared.rule.Entry.{Entry}
 use Rattle.grammar.specs.Rules.{noEntry, RuleEntries}
 use Rattle.grammar.proofs.Entries.{formed-kind, formed-a, formed-b}
-use Rattle.records.specs.Kinds.{rowOf, shapeOf}
+use Rattle.terms.specs.Kinds.{rowOf, shapeOf}
 use Rattle.meaning.specs.Marks.{meansHere, means, below, mark}
 
 module _ (levels labels : List ℕ) (entries : List Entry) where

@@ -1,31 +1,69 @@
--- On the meaning's words the step table gives the meaning's word: an entry's bit is its mark, from the bits of the entries before it,
--- the parent's word and the previous sibling's. Assumes nothing.
-use Prim.Native.Nat.{ℕ, zero, suc, _≤_, _<_}
-use native.Mathlib.Nat.{zero-div}
+-- The step table's word grows entry by entry; and on the meaning's words the table gives the meaning's word: an entry's bit is its
+-- mark, from the bits of the entries before it, the parent's word and the previous sibling's. Assumes nothing.
+use Prim.Native.Nat.{ℕ, zero, suc, _+_, _*_, _^_, _≤_, _<_}
+use native.Mathlib.Nat.{zero-div, pow-suc}
+use native.Mathlib.Numerals.{add-one}
 use native.Mathlib.Decide.{decLt}
 use native.Mathlib.Omega.{arith}
-use mathlib.Core.Path.{_≡_, refl, sym}
+use mathlib.Core.Path.{_≡_, refl, sym, ap, _∙_}
 use mathlib.Core.Bool.{Bool, true}
-use mathlib.Core.List.{List}
+use mathlib.Core.List.{List, [], _∷_, _++_}
 use mathlib.Core.Option.{Option, none, some}
-use lib.ListN.{length, getD}
-use Rattle.records.specs.declared.rule.Entry.{Entry}
-use Rattle.records.proofs.First.{clash}
+use lib.ListN.{length, getD, List·getD-append}
+use Rattle.rules.specs.declared.rule.Entry.{Entry}
+use Rattle.numbers.proofs.First.{clash}
 use Rattle.grammar.specs.Rules.{noEntry, RuleEntries}
 use Rattle.grammar.proofs.Entries.{formed-a, formed-b}
-use Rattle.records.specs.declared.kind.Axis.{Axis}
-use Rattle.records.specs.declared.kind.Axis.the-variants.{Child as child, Parent as toParent, Next as next, Previous as toPrevious}
+use Rattle.terms.specs.declared.kind.Axis.{Axis}
+use Rattle.terms.specs.declared.kind.Axis.the-variants.{Child as child, Parent as toParent, Next as next, Previous as toPrevious}
 use Rattle.meaning.specs.Tree.{direction}
 use Rattle.meaning.specs.Links.{parent, previous, link}
-use Rattle.records.specs.declared.kind.Shape.{Shape}
-use Rattle.records.specs.declared.kind.Shape.the-variants.{Nothing as nothing, Here as local, SomeAlong as someAlong, UntilAlong as untilAlong, EveryChild as everyChild}
-use Rattle.records.specs.Kinds.{rowOf, shapeOf, leadsBack, shapeLooksBack}
-use Rattle.meaning.specs.Marks.{at, someOf, meansHere, means, mark, bitAt, word, wordOf}
+use Rattle.terms.specs.declared.kind.Shape.{Shape}
+use Rattle.terms.specs.declared.kind.Shape.the-variants.{Nothing as nothing, Here as local, SomeAlong as someAlong, UntilAlong as untilAlong, EveryChild as everyChild}
+use Rattle.terms.specs.Kinds.{rowOf, shapeOf, leadsBack, shapeLooksBack}
+use Rattle.meaning.specs.Marks.{at, someOf, meansHere, means, mark, wordOf}
 use Rattle.meaning.specs.OnePass.{LooksBack, wordTo, stepBit, stepWord}
 use Rattle.meaning.proofs.Tests.{until-is}
 use Rattle.meaning.proofs.Reflect.{axis-along}
 use Rattle.meaning.proofs.OneStep.{mark-rule}
-use Rattle.meaning.proofs.Words.{word-bit, wordOf-bit}
+use Rattle.meaning.proofs.Words.{wordOf-bit}
+use Rattle.numbers.specs.Bits.{bit, bitAt, word}
+use Rattle.numbers.proofs.BitLaws.{bit-le, word-bit}
+
+-- ---- the word, entry by entry
+
+-- The word of m entries has m bits.
+pub step-small : (es : List Entry) (label p q m : ℕ) → stepWord es label p q m < 2 ^ m
+unfolding stepWord
+step-small es label p q zero = omega arith
+step-small es label p q (suc m) = omega (
+  arith,
+  pow-suc 2 m,
+  bit-le (stepBit (shapeOf (getD es m noEntry .kind)) (getD es m noEntry .a) (getD es m noEntry .b) m label (stepWord es label p q m) p q) (2 ^ m),
+  step-small es label p q m,
+)
+
+-- Entries behind the first m play no part in their word.
+step-prefix : (es fs : List Entry) (label p q m : ℕ) → m ≤ length es → stepWord (es ++ fs) label p q m ≡ stepWord es label p q m
+unfolding stepWord
+step-prefix es fs label p q zero l = refl
+step-prefix es fs label p q (suc m) l = rw (stepWord, List·getD-append es fs noEntry m (omega arith), step-prefix es fs label p q m (omega arith))
+
+-- The entry behind all others is the last one.
+last-entry : (es : List Entry) (e : Entry) → getD (es ++ (e ∷ [])) (length es) noEntry ≡ e
+last-entry [] e = refl
+last-entry (x ∷ es) e = last-entry es e
+
+-- One entry more: its bit is added above the others.
+pub step-last : (es : List Entry) (e : Entry) (label p q n : ℕ) → length es ≡ n → (on : Bool) (w : ℕ) → w ≡ stepWord es label p q n
+    → on ≡ stepBit (shapeOf (e .kind)) (e .a) (e .b) n label w p q → bit on * 2 ^ n + w ≡ stepWord (es ++ (e ∷ [])) label p q (n + 1)
+unfolding stepWord
+step-last es e label p q n l on w z f =
+    let g : getD (es ++ (e ∷ [])) n noEntry ≡ e = ap (λ (x : ℕ). getD (es ++ (e ∷ [])) x noEntry) (sym l) ∙ last-entry es e in
+    let h : stepWord (es ++ (e ∷ [])) label p q n ≡ w = step-prefix es (e ∷ []) label p q n (omega arith) ∙ sym z in
+    rw (add-one n, stepWord, g, h, ← f)
+
+-- ---- on the meaning's words
 
 -- The word of an element that is found; 0 where there is none.
 abbrev pub foundWord : (ℕ → ℕ) → Option ℕ → ℕ

@@ -1,22 +1,24 @@
 -- Marks: the meaning as a test that computes; the word of an element; verdict and selected count. Document 01, "Numbers given back"
 -- (mark buffer) and demand 2.
 -- Laws: proofs/Reflect.antt says that a mark is true exactly where the entry holds; proofs/Words.antt. Assumes nothing.
-use Prim.Native.Nat.{ℕ, zero, suc, pred, _+_, _*_, _^_, _%_, _/_}
+use Prim.Native.Nat.{ℕ, zero, suc, pred, _+_}
 use mathlib.Core.Bool.{Bool, true, false, cond, not, _&&_, _||_}
-use mathlib.Core.List.{List, [], _∷_, _++_}
+use mathlib.Core.List.{List, [], _∷_}
 use mathlib.Core.Option.{Option, none, some}
 use lib.Dec.{eqb}
 use lib.ListN.{length, getD}
-use Rattle.records.specs.declared.rule.Entry.{Entry}
+use Rattle.rules.specs.declared.rule.Entry.{Entry}
 use Rattle.grammar.specs.Rules.{noEntry}
-use Rattle.records.specs.declared.kind.Axis.the-variants.{Child as child}
+use Rattle.terms.specs.declared.kind.Axis.the-variants.{Child as child}
 use Rattle.meaning.specs.Tree.{Direction, forward, backward, direction}
 use Rattle.meaning.specs.Links.{link}
-use Rattle.records.specs.declared.kind.Local.{Local}
-use Rattle.records.specs.declared.kind.Local.the-variants.{Always as always, HasLabel as hasLabel, Negation as negation, Disjunction as disjunction, Conjunction as conjunction}
-use Rattle.records.specs.declared.kind.Shape.{Shape}
-use Rattle.records.specs.declared.kind.Shape.the-variants.{Nothing as nothing, Here as local, SomeAlong as someAlong, UntilAlong as untilAlong, EveryChild as everyChild}
-use Rattle.records.specs.Kinds.{shapeOf}
+use Rattle.terms.specs.declared.kind.Local.{Local}
+use Rattle.terms.specs.declared.kind.Local.the-variants.{Always as always, HasLabel as hasLabel, Negation as negation, Disjunction as disjunction, Conjunction as conjunction}
+use Rattle.terms.specs.declared.kind.Shape.{Shape}
+use Rattle.terms.specs.declared.kind.Shape.the-variants.{Nothing as nothing, Here as local, SomeAlong as someAlong, UntilAlong as untilAlong, EveryChild as everyChild}
+use Rattle.terms.specs.Kinds.{shapeOf}
+use Rattle.numbers.specs.Bits.{bit, word, bitAt}
+use Rattle.numbers.specs.Lists.{listed}
 
 -- There is such an element, and p passes at it.
 abbrev pub at : Option ℕ → (ℕ → Bool) → Bool
@@ -76,33 +78,14 @@ module _ (levels labels : List ℕ) where
     unfoldable pub mark : (i s : ℕ) → Bool
     mark i = below (suc i) i
 
--- A mark word has so many bits, one for each entry that a rule may have.
-abbrev pub wordBits : ℕ
-wordBits = 64
-
--- A number's bit.
-abbrev pub bit : Bool → ℕ
-bit true = 1
-bit false = 0
-
--- The word of m marks: bit i is mark i, and the bits from m on are 0.
-unfoldable pub word : ℕ → (ℕ → Bool) → ℕ
-word zero f = 0
-word (suc m) f = bit (f m) * 2 ^ m + word m f
-
--- Bit a of a word.
-abbrev pub bitAt : ℕ → ℕ → Bool
-bitAt w a = eqb (w / 2 ^ a % 2) 1
-
 module _ (entries : List Entry) (levels labels : List ℕ) where
   -- The word of an element: a bit for every entry.
   unfoldable pub wordOf : ℕ → ℕ
   wordOf s = word (length entries) (λ i. mark levels labels entries i s)
 
   -- The words of the first n elements, and of all.
-  unfoldable pub wordsBelow : ℕ → List ℕ
-  wordsBelow zero = []
-  wordsBelow (suc n) = wordsBelow n ++ (wordOf n ∷ [])
+  abbrev pub wordsBelow : ℕ → List ℕ
+  wordsBelow n = listed n wordOf
 
   unfoldable pub words : List ℕ
   words = wordsBelow (length levels)

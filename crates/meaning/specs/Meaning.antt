@@ -10,14 +10,14 @@ use mathlib.Core.Logic.{_⊎_}
 use mathlib.Core.List.{List}
 use lib.Dec.{eqb}
 use lib.ListN.{getD}
-use Rattle.records.specs.declared.rule.Entry.{Entry}
-use Rattle.records.specs.declared.kind.Local.{Local}
-use Rattle.records.specs.declared.kind.Local.the-variants.{Always as always, HasLabel as hasLabel, Negation as negation, Disjunction as disjunction, Conjunction as conjunction}
-use Rattle.records.specs.declared.kind.Shape.{Shape}
-use Rattle.records.specs.declared.kind.Shape.the-variants.{Nothing as nothing, Here as local, SomeAlong as someAlong, UntilAlong as untilAlong, EveryChild as everyChild}
-use Rattle.records.specs.Kinds.{shapeOf}
+use Rattle.rules.specs.declared.rule.Entry.{Entry}
+use Rattle.terms.specs.declared.kind.Local.{Local}
+use Rattle.terms.specs.declared.kind.Local.the-variants.{Always as always, HasLabel as hasLabel, Negation as negation, Disjunction as disjunction, Conjunction as conjunction}
+use Rattle.terms.specs.declared.kind.Shape.{Shape}
+use Rattle.terms.specs.declared.kind.Shape.the-variants.{Nothing as nothing, Here as local, SomeAlong as someAlong, UntilAlong as untilAlong, EveryChild as everyChild}
+use Rattle.terms.specs.Kinds.{shapeOf}
 use Rattle.grammar.specs.Rules.{noEntry}
-use Rattle.records.specs.declared.kind.Axis.the-variants.{Child as child}
+use Rattle.terms.specs.declared.kind.Axis.the-variants.{Child as child}
 use Rattle.meaning.specs.Tree.{Neighbour, Star}
 
 -- B holds at some t at the end of a way of R from s, which may be s itself, and A holds at every u on the way, t excepted.

@@ -9,17 +9,18 @@ use mathlib.Core.Bool.{Bool, true, false, cond, _&&_, _||_}
 use mathlib.Core.List.{List, [], _∷_}
 use lib.Dec.{eqb, ltb}
 use lib.ListN.{length, getD, set, replicate}
-use Rattle.records.specs.declared.rule.Entry.{Entry}
-use Rattle.records.specs.Kinds.{looksBack}
-use Rattle.records.specs.Tags.{Tag, opens, closes, tagFault}
+use Rattle.rules.specs.declared.rule.Entry.{Entry}
+use Rattle.terms.specs.Kinds.{looksBack}
+use Rattle.reports.specs.Tags.{Tag, opens, closes, tagFault}
 use Rattle.grammar.specs.Rules.{noEntry}
-use Rattle.records.specs.declared.kind.Axis.{Axis}
-use Rattle.records.specs.declared.kind.Axis.the-variants.{Child as child, Parent as parent, Next as next, Previous as previous}
-use Rattle.records.specs.declared.kind.Shape.{Shape}
-use Rattle.records.specs.declared.kind.Shape.the-variants.{Nothing as nothing, Here as local, SomeAlong as someAlong, UntilAlong as untilAlong, EveryChild as everyChild}
-use Rattle.records.specs.Kinds.{shapeOf}
-use Rattle.meaning.specs.Marks.{bit, bitAt, meansHere}
-use Rattle.records.specs.Limits.{levelsMost}
+use Rattle.terms.specs.declared.kind.Axis.{Axis}
+use Rattle.terms.specs.declared.kind.Axis.the-variants.{Child as child, Parent as parent, Next as next, Previous as previous}
+use Rattle.terms.specs.declared.kind.Shape.{Shape}
+use Rattle.terms.specs.declared.kind.Shape.the-variants.{Nothing as nothing, Here as local, SomeAlong as someAlong, UntilAlong as untilAlong, EveryChild as everyChild}
+use Rattle.terms.specs.Kinds.{shapeOf}
+use Rattle.meaning.specs.Marks.{meansHere}
+use Rattle.terms.specs.Limits.{levelsMost}
+use Rattle.numbers.specs.Bits.{bit, bitAt}
 
 -- How many elements are open and have been opened, whether the root is closed, and for each of 64 levels a presence bit, an open
 -- word and a last word.

@@ -9,9 +9,9 @@ use mathlib.Core.Path.{_≡_}
 use mathlib.Core.Bool.{cond}
 use mathlib.Core.List.{List}
 use lib.ListN.{length, getD}
-use Rattle.records.specs.Kinds.{leadsBack}
-use Rattle.records.specs.declared.kind.Axis.{Axis}
-use Rattle.records.specs.declared.kind.Axis.the-variants.{Child as child, Parent as parent, Next as next, Previous as previous}
+use Rattle.terms.specs.Kinds.{leadsBack}
+use Rattle.terms.specs.declared.kind.Axis.{Axis}
+use Rattle.terms.specs.declared.kind.Axis.the-variants.{Child as child, Parent as parent, Next as next, Previous as previous}
 
 -- s is a child of p: s is an element, p opens before it, s is one level below p, and everything that opens between the two is
 -- below p, so that p is still open where s opens.

@@ -11,31 +11,35 @@ use mathlib.Core.Bool.{Bool, true, false, cond}
 use mathlib.Core.List.{List, [], _∷_, _++_, append-assoc, append-nil}
 use lib.Dec.{eqb}
 use lib.ListN.{length, replicate}
-use Rattle.records.specs.declared.answer.Answer.{Answer}
-use Rattle.records.specs.declared.answer.Answer.the-variants.{Accepted, Refused}
-use Rattle.records.specs.declared.rule.Entry.{Entry}
-use Rattle.records.specs.Report.{reportAnswer, tagsOf as tagsIn}
-use Rattle.records.specs.Rule.{ruleAnswer}
-use Rattle.records.specs.Tables.{entriesOf, levelsOf, labelsOf}
-use Rattle.records.specs.Tags.{Tag, opens, closes, opened}
+use Rattle.terms.specs.declared.answer.Answer.{Answer}
+use Rattle.terms.specs.declared.answer.Answer.the-variants.{Accepted, Refused}
+use Rattle.rules.specs.declared.rule.Entry.{Entry}
+use Rattle.reports.specs.Report.{reportAnswer, tagsOf as tagsIn}
+use Rattle.rules.specs.Rule.{ruleAnswer}
+use Rattle.reports.specs.Tags.{Tag, opens, closes, openedCount}
 use Rattle.grammar.specs.Bytes.{Bytes}
 use Rattle.grammar.proofs.Elements.{accepted-legal, levels-accepted, labels-accepted}
 use Rattle.grammar.specs.Reports.{bytesOf}
-use Rattle.grammar.proofs.ReportBytes.{accepted-tree, tags-are}
+use Rattle.grammar.proofs.Begins.{report-bytes, report-begins, fit-goes-on}
 use Rattle.grammar.proofs.Trees.{bytes-append}
 use Rattle.grammar.proofs.Entries.{entries-few, rule-entries}
-use Rattle.meaning.specs.Marks.{bit, bitAt, wordOf, verdict}
+use Rattle.meaning.specs.Marks.{wordOf, verdict}
 use Rattle.meaning.specs.OnePass.{fresh, LooksBack, fault, openedVerdict, afterAll, Taken}
 use Rattle.meaning.proofs.Agrees.{verdict-agrees as table-agrees}
 use Rattle.meaning.proofs.Taken.{taken-append, taken-fit, after-append}
+use Rattle.walk.proofs.WalkLaws.{back-ahead}
+use Rattle.state.specs.Promises.{startNumber}
+use Rattle.state.specs.State.{stateSize, stateOf, Good}
+use Rattle.state.specs.Stores.{startAfter, written}
+use Rattle.state.proofs.StateLaws.{zeros-fresh, zeros-good, zeros-bytes}
+use Rattle.state.proofs.WrittenLaws.{written-state, written-good, written-bytes}
 use Rattle.onepass.specs.Calls.{Call, Promised, Calls, done, then, tagsOf, taken, takenTags, Begins}
-use Rattle.onepass.specs.State.{stateSize, stateOf, Good}
-use Rattle.onepass.specs.Step.{reply, startAnswer, startAfter, written, looksAhead, callNumber, entriesAnswer, entriesAfter, answerOf}
-use Rattle.onepass.specs.Step.{stateAfter, Started, Opened}
+use Rattle.onepass.specs.Step.{stepAnswer, stepAfter, callNumber, answerOf, stateAfter, Started, Opened}
 use Rattle.onepass.specs.declared.export.StepReply.{StepReply}
-use Rattle.onepass.proofs.StateLaws.{zeros-fresh, zeros-good, zeros-bytes}
-use Rattle.onepass.proofs.CallLaws.{call-taken, call-number, written-state, written-good, written-bytes}
-use Rattle.onepass.proofs.Begins.{report-begins, fit-goes-on}
+use Rattle.onepass.proofs.CallLaws.{call-taken, call-number}
+use Rattle.rules.specs.Entries.{entriesOf}
+use Rattle.reports.specs.Elements.{levelsOf, labelsOf}
+use Rattle.numbers.specs.Bits.{bit, bitAt}
 
 -- ---- one call
 
@@ -47,7 +51,7 @@ promised-both rule s closes p = (p .answer, p .state-is)
 
 -- A call that is not answered 0 leaves the state as it was.
 pub refused-kept : (rule s : List ℕ) (t : Tag) (r : StepReply) (next : List ℕ) → Promised rule s t r next → (r .number ≡ 0 → ⊥) → next ≡ s
-unfolding answerOf stateAfter entriesAnswer entriesAfter
+unfolding answerOf stateAfter stepAnswer stepAfter
 refused-kept rule s t r next p n = go (ruleAnswer rule) refl where
   go : (a : Answer) → ruleAnswer rule ≡ a → next ≡ s
   go (Accepted m) e =
@@ -108,14 +112,6 @@ taken-split (b ∷ before) c later e =
     let r = taken-split before c later (h .1) in
     (rw (eq-eqb (b .answer .number) 0 (h .0), r .0), r .1)
 
--- ---- a rule that looks back only
-
--- No entry looks ahead exactly where every entry looks back.
-back-ahead : (es : List Entry) → LooksBack es → looksAhead es ≡ false
-unfolding looksAhead
-back-ahead [] h = refl
-back-ahead (e ∷ es) h = rw (h 0 (omega arith), back-ahead es (λ i l. h (suc i) (omega arith)))
-
 -- ---- the states that start leads to
 
 module _ (rule : List ℕ) (m : ℕ) (accepted : ruleAnswer rule ≡ Accepted m) (back : LooksBack (entriesOf rule)) where
@@ -134,11 +130,11 @@ module _ (rule : List ℕ) (m : ℕ) (accepted : ruleAnswer rule ≡ Accepted m)
   reached-number ts s h t = call-number es s t (back-ahead es back) (h .good) ∙ rw (h .state-is)
 
   answer-number : (s : List ℕ) (t : Tag) {r : StepReply} → r ≡ answerOf rule s t → r .number ≡ callNumber es s t
-  unfolding answerOf entriesAnswer
+  unfolding answerOf stepAnswer
   answer-number s t e = ap (λ (x : StepReply). x .number) e ∙ rw accepted
 
   state-written : (s : List ℕ) (t : Tag) → callNumber es s t ≡ 0 → stateAfter rule s t ≡ written es s t
-  unfolding stateAfter entriesAfter
+  unfolding stateAfter stepAfter
   state-written s t z = rw (accepted, z)
 
   -- A call that is answered 0 leads on by its tag.
@@ -198,11 +194,11 @@ module _ (rule : List ℕ) (m : ℕ) (accepted : ruleAnswer rule ≡ Accepted m)
 
   module _ (given start : List ℕ) (r₀ : StepReply) (started : Started given r₀ start) (begun : r₀ .number ≡ 0) where
     start-zeros : start ≡ replicate stateSize 0
-    unfolding startAnswer startAfter
-    start-zeros = go (eqb (length given) stateSize) (started .answer) (started .state-is) where
-      go : (b : Bool) → r₀ ≡ cond b (reply 0 0 0) (reply 11 0 0) → start ≡ cond b (replicate stateSize 0) given → start ≡ replicate stateSize 0
+    unfolding startNumber startAfter
+    start-zeros = go (eqb (length given) stateSize) (ap (λ (x : StepReply). x .number) (started .answer)) (started .state-is) where
+      go : (b : Bool) → r₀ .number ≡ cond b 0 11 → start ≡ cond b (replicate stateSize 0) given → start ≡ replicate stateSize 0
       go true e f = f
-      go false e f = absurd (omega (arith, begun, ap (λ (x : StepReply). x .number) e))
+      go false e f = absurd (omega (arith, begun, e))
 
     -- What start writes is the fresh state.
     started-state : stateOf start ≡ fresh
@@ -236,16 +232,16 @@ module _ (rule : List ℕ) (m : ℕ) (accepted : ruleAnswer rule ≡ Accepted m)
       number-zero = sym (answer-number (parts .0) (opens label) (parts .3 .answer)) ∙ zero
 
       verdict-is : r .verdict ≡ bit (openedVerdict es (afterAll es fresh tags) label)
-      unfolding answerOf entriesAnswer
+      unfolding answerOf stepAnswer
       verdict-is =
           ap (λ (x : StepReply). x .verdict) (parts .3 .answer) ∙ rw (accepted, number-zero, calls-reached (parts .2) .state-is)
 
       -- THE THEOREM: its verdict is the meaning's verdict of the element whose number is the count of openings accepted before, in
       -- every report that the report reader accepts and whose bytes begin with the accepted tags' bytes.
       pub verdict-agrees : (report : List ℕ) (n : ℕ) → Begins (tags ++ (opens label ∷ [])) report n
-          → r .verdict ≡ bit (verdict (entriesOf rule) (levelsOf report) (labelsOf report) (opened tags))
+          → r .verdict ≡ bit (verdict (entriesOf rule) (levelsOf report) (labelsOf report) (openedCount tags))
       verdict-agrees report n b =
-          let q = report-begins (tags ++ (opens label ∷ [])) report n b in
+          let q = report-begins report n (b .bytes) (b .accepted) (tags ++ (opens label ∷ [])) (b .rest) (b .begins) in
           let all : tagsIn report ≡ tags ++ (opens label ∷ q .0) = q .1 ∙ append-assoc tags (opens label ∷ []) (q .0) in
           verdict-is
           ∙ ap bit (table-agrees es (rule-entries rule m accepted) back tags label (q .0) (calls-reached (parts .2) .taken-are))
@@ -255,7 +251,8 @@ module _ (rule : List ℕ) (m : ℕ) (accepted : ruleAnswer rule ≡ Accepted m)
       pub goes-on : (report : List ℕ) × (n : ℕ) × Begins (tags ++ (opens label ∷ [])) report n
       goes-on =
           let h = reached-taken tags (parts .0) (calls-reached (parts .2)) (opens label) number-zero in
-          fit-goes-on (tags ++ (opens label ∷ [])) (taken-fit es _ .0 (h .taken-are)) (some tags)
+          let f = fit-goes-on (tags ++ (opens label ∷ [])) (taken-fit es _ .0 (h .taken-are)) (some tags) in
+          (f .0, f .1, record { bytes = f .3; accepted = f .4; rest = f .2; begins = f .5 })
         where
           some : (ts : List Tag) → ts ++ (opens label ∷ []) ≡ [] → ⊥
           some [] e = let z : _≡_ {A = ℕ} 0 1 = cc in omega arith
@@ -276,15 +273,13 @@ module _ (rule : List ℕ) (m : ℕ) (accepted : ruleAnswer rule ≡ Accepted m)
           → Begins (tagsOf before ++ (c .tag ∷ [])) report n
       unfolding tagsOf
       fed-begins before c later e =
-          let t = accepted-tree report bytes n taken-report in
           let split : tagsIn report ≡ tagsOf before ++ (c .tag ∷ tagsOf later) = sym fed ∙ ap tagsOf e ∙ tags-append before (c ∷ later) in
           record {
             bytes = bytes;
             accepted = taken-report;
             rest = bytesOf (tagsOf later);
             begins = sym (bytes-append (tagsOf before ++ (c .tag ∷ [])) (tagsOf later))
-                ∙ ap bytesOf (append-assoc (tagsOf before) (c .tag ∷ []) (tagsOf later) ∙ sym split ∙ tags-are report (t .0) (t .1) (t .2))
-                ∙ sym (t .1);
+                ∙ ap bytesOf (append-assoc (tagsOf before) (c .tag ∷ []) (tagsOf later) ∙ sym split) ∙ report-bytes report n bytes taken-report;
           }
 
       -- At each opening the verdict is the last entry's bit of the meaning's word of that element.
@@ -292,7 +287,7 @@ module _ (rule : List ℕ) (m : ℕ) (accepted : ruleAnswer rule ≡ Accepted m)
           → cs ≡ before ++ (record { tag = opens label; answer = r } ∷ later)
           → (r .number ≡ 0)
           × (r .verdict
-          ≡ bit (bitAt (wordOf (entriesOf rule) (levelsOf report) (labelsOf report) (opened (tagsOf before))) (pred (length (entriesOf rule)))))
+          ≡ bit (bitAt (wordOf (entriesOf rule) (levelsOf report) (labelsOf report) (openedCount (tagsOf before))) (pred (length (entriesOf rule)))))
       unfolding verdict tagsOf taken
       report-fed before label r later e =
           let c : Call = record { tag = opens label; answer = r } in

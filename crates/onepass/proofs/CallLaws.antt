@@ -1,223 +1,132 @@
--- One call with an accepted rule: when it is taken, what it is answered, and that the bytes after it are the state of the step table
--- after its tag, pass the test again, and are bytes. Assumes nothing.
-use Prim.Native.Nat.{ℕ, pred, _+_, _^_, _≤_, _<_}
-use native.Mathlib.Nat.{lt-of-lt-of-le}
+-- One call with an accepted rule: when it is taken, and that what each return of the code answers and leaves is what is promised.
+-- Assumes nothing.
+use Prim.Native.Nat.{ℕ, pred, _-_, _≤_}
 use native.Mathlib.Omega.{arith}
-use borrow.Author.Tests.{ne-eqb, eqb-true, eqb-false}
+use borrow.Author.Tests.{eqb-true}
 use mathlib.Core.Path.{_≡_, refl, sym, ap, _∙_}
-use mathlib.Core.Bool.{Bool, true, false, cond, _||_}
+use mathlib.Core.Bool.{Bool, true, false, cond, _&&_}
 use mathlib.Core.List.{List}
-use lib.Dec.{leb, ltb, eqb}
+use lib.Dec.{eqb}
 use lib.ListN.{length}
-use lib.Pow.{pow-mono}
-use Rattle.records.specs.declared.rule.Entry.{Entry}
-use Rattle.records.specs.Tags.{Tag, opens, closes, outside, tagFault}
-use Rattle.records.proofs.ReportLaws.{open-sound, close-sound}
-use Rattle.grammar.specs.Bytes.{Bytes}
-use Rattle.meaning.specs.Marks.{bit, bitAt, wordBits}
-use Rattle.meaning.specs.OnePass.{State, fault, stepWord, openedWord, openedVerdict, opened, closed, after}
-use Rattle.onepass.specs.Bytes.{wordAt}
-use Rattle.onepass.specs.State.{depthIn, elementsIn, rootIn, presenceIn, openPlace, lastPlace, stateOf, bad, Good}
-use Rattle.onepass.specs.Step.{reply, cleared, openedBytes, marked, rooted, closedBytes, written, looksAhead, callNumber}
-use Rattle.onepass.specs.Step.{entriesAnswer, entriesAfter, Answered}
-use Rattle.onepass.proofs.ByteLaws.{word-small, put-length, put-bytes}
-use Rattle.onepass.proofs.StepLaws.{step-small}
-use Rattle.onepass.proofs.StateLaws.{state-same, good-iff, listed-at, parent-read, sibling-read, opened-depth, opened-elements}
-use Rattle.onepass.proofs.StateLaws.{opened-root, opened-spare, opened-open, opened-last, opened-presence, closed-depth}
-use Rattle.onepass.proofs.StateLaws.{closed-elements, closed-root, closed-spare, closed-last, closed-open, closed-presence}
-use Rattle.records.specs.Limits.{elementsMost, levelsMost}
+use Rattle.terms.specs.declared.answer.Answer.{Answer}
+use Rattle.terms.specs.declared.answer.Answer.the-variants.{Accepted, Refused}
+use Rattle.rules.specs.declared.rule.Entry.{Entry}
+use Rattle.terms.specs.Answer.{placeOf, countOf}
+use Rattle.terms.specs.Limits.{ruleMost}
+use Rattle.rules.specs.Rule.{ruleAnswer}
+use Rattle.reports.specs.Tags.{Tag, opens, closes}
+use Rattle.grammar.proofs.Entries.{entries-count, entries-some}
+use Rattle.meaning.specs.OnePass.{fault, openedVerdict}
+use Rattle.walk.specs.Walk.{looksAhead, Walked, Asked}
+use Rattle.walk.specs.declared.walk.Ahead.{Ahead}
+use Rattle.walk.specs.declared.walk.Walk.{Walk}
+use Rattle.walk.proofs.WalkLaws.{walked-ahead, walked-word, asked-ahead}
+use Rattle.state.specs.Promises.{WordsRead, stateNumber, StateOpened, StateClosed}
+use Rattle.state.specs.State.{stateOf, Good}
+use Rattle.state.specs.Stores.{opening, closing, written}
+use Rattle.state.specs.declared.state.Words.{Words}
+use Rattle.state.proofs.NumberLaws.{state-taken, state-number, opened-read}
+use Rattle.onepass.specs.Step.{reply, stepNumber, stepAnswer, stepAfter, Stepped, callNumber, verdictOf, answerOf, stateAfter}
+use Rattle.onepass.specs.declared.export.StepReply.{StepReply}
+use Rattle.rules.specs.Entries.{entriesOf}
+use Rattle.rules.proofs.EntryLaws.{rule-small}
+use Rattle.numbers.specs.Bits.{bit, bitAt}
+use Rattle.numbers.proofs.BitLaws.{pred-sub}
+
+-- ---- what the code answers where the rule is accepted
+
+-- An entry looks ahead: 10, no place, no verdict, and the bytes as they were.
+pub step-ahead : (s : List ℕ) (t : Tag) (verdict : Bool) (taken : List ℕ) (ahead : Bool) → ahead ≡ true
+    → Stepped ahead s t verdict taken (reply 10 0 0) s
+unfolding stepNumber stepAnswer stepAfter
+step-ahead s t verdict taken ahead e = record { answer = rw e; state-is = rw e }
+
+-- None does: an opening has the state's number, and where that is 0 the last entry's bit of the word.
+pub step-opened : (s : List ℕ) (label w n k : ℕ) (on : Bool) (after : List ℕ) (ahead : Bool) → ahead ≡ false → StateOpened s label w k after
+    → on ≡ bitAt w (n - 1) → Stepped ahead s (opens label) (bitAt w (pred n)) (opening w s) (reply k 0 (bit (eqb k 0 && on))) after
+unfolding stepNumber stepAnswer stepAfter
+step-opened s label w n k on after ahead e o b =
+    record { answer = rw (e, o .number-is, b, pred-sub n); state-is = rw e (o .state-is) }
+
+-- A closing has the state's number.
+pub step-closed : (s : List ℕ) (k : ℕ) (after : List ℕ) (ahead : Bool) → ahead ≡ false → StateClosed s k after
+    → Stepped ahead s closes false (closing s) (reply k 0 0) after
+unfolding stepNumber stepAnswer stepAfter
+step-closed s k after ahead e o = record { answer = rw (e, o .number-is) (ap (reply (stateNumber s closes) 0) (none (eqb (stateNumber s closes) 0))); state-is = rw e (o .state-is) }
+  where
+    none : (b : Bool) → 0 ≡ bit (b && false)
+    none true = refl
+    none false = refl
 
 -- ---- when a call is taken
 
-module _ (es : List Entry) (s : List ℕ) where
-  -- A call is taken only where no entry looks ahead, the state passes the test, and the tag has no fault there.
-  pub call-taken : (t : Tag) → callNumber es s t ≡ 0 → (looksAhead es ≡ false) × (Good s × (_≡_ {A = ℕ} (fault (stateOf s) t) 0))
-  unfolding callNumber
-  call-taken t z = go (looksAhead es) (bad s) refl refl z where
-    go : (a b : Bool) → looksAhead es ≡ a → bad s ≡ b → cond a 10 (cond b 11 (fault (stateOf s) t)) ≡ 0
-        → (looksAhead es ≡ false) × (Good s × (_≡_ {A = ℕ} (fault (stateOf s) t) 0))
-    go true b p q r = absurd (omega arith)
-    go false true p q r = absurd (omega arith)
-    go false false p q r = (p, (good-iff s .0 q, r))
+module _ (ahead : Bool) (s : List ℕ) (t : Tag) where
+  -- Only where no entry looks ahead, and the state takes the tag.
+  step-taken : stepNumber ahead s t ≡ 0 → (ahead ≡ false) × (stateNumber s t ≡ 0)
+  unfolding stepNumber
+  step-taken z = go ahead z where
+    go : (a : Bool) → cond a 10 (stateNumber s t) ≡ 0 → (a ≡ false) × (stateNumber s t ≡ 0)
+    go true r = absurd (omega arith)
+    go false r = (refl, r)
+
+module _ (es : List Entry) (s : List ℕ) (t : Tag) where
+  -- So only where no entry looks ahead, the state passes the test, and the tag has no fault there.
+  pub call-taken : callNumber es s t ≡ 0 → (looksAhead es ≡ false) × (Good s × (_≡_ {A = ℕ} (fault (stateOf s) t) 0))
+  call-taken z = let r = step-taken (looksAhead es) s t z in (r .0, state-taken s t (r .1))
 
   -- Where no entry looks ahead and the state passes the test, the tag's fault is the number.
-  pub call-number : (t : Tag) → looksAhead es ≡ false → Good s → callNumber es s t ≡ fault (stateOf s) t
-  unfolding callNumber
-  call-number t a g = rw (a, good-iff s .1 g)
+  pub call-number : looksAhead es ≡ false → Good s → callNumber es s t ≡ fault (stateOf s) t
+  unfolding stepNumber
+  call-number a g = rw a (state-number s t g)
 
-  -- ---- what it is answered
+-- Verdict and bytes count only where the call is taken: two that agree there are one.
+step-same : (ahead : Bool) (s : List ℕ) (t : Tag) (v v′ : Bool) (x x′ : List ℕ) → (stepNumber ahead s t ≡ 0 → (v ≡ v′) × (x ≡ x′))
+    → (stepAnswer ahead s t v ≡ stepAnswer ahead s t v′) × (stepAfter ahead s t x ≡ stepAfter ahead s t x′)
+unfolding stepAnswer stepAfter
+step-same ahead s t v v′ x x′ h = go (eqb k 0) refl where
+  k : ℕ
+  k = stepNumber ahead s t
 
-  -- Refused: the number, no place, no verdict, and the bytes as they were.
-  pub refused-is : (t : Tag) (k : ℕ) → k ≡ callNumber es s t → (k ≡ 0 → ⊥) → Answered es s t (reply k 0 0) s
-  unfolding entriesAnswer entriesAfter
-  refused-is t k e n = record { answer = rw (← e, ne-eqb k 0 n); state-is = rw (← e, ne-eqb k 0 n) }
+  go : (b : Bool) → eqb k 0 ≡ b → (reply k 0 (bit (b && v)) ≡ reply k 0 (bit (b && v′))) × (cond b x s ≡ cond b x′ s)
+  go true e = let q = h (eqb-true k 0 e) in (rw (q .0), q .1)
+  go false e = (refl, refl)
 
-  -- An opening that is taken: the last entry's bit of the word, and what opening writes.
-  pub opened-is : (l w : ℕ) → callNumber es s (opens l) ≡ 0 → w ≡ openedWord es (stateOf s) l
-      → Answered es s (opens l) (reply 0 0 (bit (bitAt w (pred (length es))))) (openedBytes (depthIn s) (elementsIn s) w s)
-  unfolding entriesAnswer entriesAfter written openedVerdict
-  opened-is l w z e = record { answer = rw (z, e); state-is = rw (z, e) }
+-- ---- the rule's bytes first
 
-  -- A closing that is taken: no verdict, and what closing writes.
-  pub closed-is : callNumber es s closes ≡ 0 → Answered es s closes (reply 0 0 0) (closedBytes (pred (depthIn s)) s)
-  unfolding entriesAnswer entriesAfter written
-  closed-is z = record { answer = rw z; state-is = rw z }
+module _ (rule s : List ℕ) (n : ℕ) where
+  -- With an accepted rule of n entries an opening is answered by the walk's word, and that is the meaning's where it is taken.
+  pub opened-call : (label : ℕ) (words : Words) (walk : Walk) (r : StepReply) (after : List ℕ) → WordsRead s words
+      → Walked rule label (words .parent) (words .sibling) walk → walk .answer ≡ Accepted n
+      → Stepped (walk .ahead) s (opens label) (bitAt (walk .word) (pred n)) (opening (walk .word) s) r after
+      → (r ≡ answerOf rule s (opens label)) × (after ≡ stateAfter rule s (opens label))
+  unfolding answerOf stateAfter written openedVerdict
+  opened-call label words walk r after read w a o =
+      let es = entriesOf rule in
+      let e : ruleAnswer rule ≡ Accepted n = sym (w .answer-is) ∙ a in
+      let ahead = walked-ahead rule n label _ _ walk w a in
+      let count : n ≡ length es = sym (entries-count rule ∙ ap countOf e) in
+      let q = step-same (walk .ahead) s (opens label) (bitAt (walk .word) (pred n)) (verdictOf es (stateOf s) (opens label)) (opening (walk .word) s) (written es s (opens label))
+      (λ z. let word = walked-word rule n label _ _ walk w a ∙ opened-read es s label words read (step-taken _ s (opens label) z .1) in (rw (word, count), rw word)) in
+      (rw (e, ← ahead) (o .answer ∙ q .0), rw (e, ← ahead) (o .state-is ∙ q .1))
 
-  -- The word of an opening, from the words that are read of the bytes.
-  pub opened-read : (l p q : ℕ) → depthIn s < levelsMost → p ≡ cond (eqb (depthIn s) 0) 0 (wordAt 8 s (openPlace (pred (depthIn s))))
-      → q ≡ cond (bitAt (presenceIn s) (depthIn s)) (wordAt 8 s (lastPlace (depthIn s))) 0
-      → stepWord es l p q (length es) ≡ openedWord es (stateOf s) l
-  unfolding openedWord
-  opened-read l p q h e f = rw (parent-read es s (omega arith), sibling-read es s h, e, f)
+  -- And a closing by what the walk without a step says.
+  pub closed-call : (asked : Ahead) (r : StepReply) (after : List ℕ) → Asked rule asked → asked .answer ≡ Accepted n
+      → Stepped (asked .ahead) s closes false (closing s) r after → (r ≡ answerOf rule s closes) × (after ≡ stateAfter rule s closes)
+  unfolding answerOf stateAfter written
+  closed-call asked r after w a o =
+      let e : ruleAnswer rule ≡ Accepted n = sym (w .answer-is) ∙ a in
+      let ahead = asked-ahead rule n asked w a in
+      (rw (e, ← ahead) (o .answer), rw (e, ← ahead) (o .state-is))
 
--- ---- what it needs
+-- With a refused one a call is answered the rule reader's number and place, and the bytes stay.
+pub refused-call : (rule s : List ℕ) (t : Tag) (k p : ℕ) → ruleAnswer rule ≡ Refused k p → (reply k p 0 ≡ answerOf rule s t) × (s ≡ stateAfter rule s t)
+unfolding answerOf stateAfter
+refused-call rule s t k p e = (rw e, rw e)
 
--- An opening that is taken finds the root open.
-open-unshut : (d e l : ℕ) (c : Bool) → tagFault d e c (opens l) ≡ 0 → c ≡ false
-unfolding tagFault
-open-unshut d e l c z = go (outside l) c (leb levelsMost d || leb elementsMost e) z where
-  go : (o q p : Bool) → _≡_ {A = ℕ} (cond o 6 (cond q 7 (cond p 8 0))) 0 → q ≡ false
-  go true q p r = absurd (omega arith)
-  go false true p r = absurd (omega arith)
-  go false false p r = refl
+-- An accepted rule has an entry.
+pub accepted-some : (rule : List ℕ) (r : Answer) (n : ℕ) → r ≡ ruleAnswer rule → r ≡ Accepted n → 1 ≤ n
+accepted-some rule r n e f = entries-some rule n (sym e ∙ f)
 
-module _ (s : List ℕ) where
-  -- An opening that is taken finds a level and an element left, and the root open.
-  pub opens-room : (l : ℕ) → fault (stateOf s) (opens l) ≡ 0 → (depthIn s < levelsMost) × (elementsIn s < elementsMost) × (rootIn s ≡ 1 → ⊥)
-  unfolding stateOf
-  opens-room l z =
-      let r = open-sound (depthIn s) (elementsIn s) l _ z in
-      (r .0, r .1, eqb-false (rootIn s) 1 (open-unshut (depthIn s) (elementsIn s) l _ z))
-
-  -- A closing that is taken finds an element open.
-  pub closes-room : fault (stateOf s) closes ≡ 0 → 0 < depthIn s
-  unfolding stateOf
-  closes-room z = close-sound (depthIn s) (elementsIn s) _ z
-
--- ---- the state after it
-
-word-room : (es : List Entry) (st : State) (l : ℕ) → length es ≤ levelsMost → openedWord es st l < 2 ^ wordBits
-unfolding openedWord
-word-room es st l h = lt-of-lt-of-le (step-small es l _ _ (length es)) (pow-mono h)
-
-either-length : (b : Bool) (s t : List ℕ) (n : ℕ) → length s ≡ n → length t ≡ n → length (cond b s t) ≡ n
-either-length true s t n p q = p
-either-length false s t n p q = q
-
-either-bytes : (b : Bool) (s t : List ℕ) → Bytes s → Bytes t → Bytes (cond b s t)
-either-bytes true s t p q = p
-either-bytes false s t p q = q
-
--- Opening and closing keep the length, and that the bytes are bytes.
-opened-length : (d e w : ℕ) (s : List ℕ) → length (openedBytes d e w s) ≡ length s
-unfolding openedBytes cleared
-opened-length d e w s =
-    let a = put-length 8 (openPlace d) w s in
-    put-length 2 2 (e + 1) _ ∙ put-length 2 0 (d + 1) _ ∙ either-length (ltb d 63) _ _ (length s) (put-length 8 8 _ _ ∙ a) a
-
-closed-length : (d : ℕ) (s : List ℕ) → length (closedBytes d s) ≡ length s
-unfolding closedBytes rooted marked
-closed-length d s =
-    let a = put-length 2 0 d _ ∙ put-length 8 8 _ _ ∙ put-length 8 (lastPlace d) (wordAt 8 s (openPlace d)) s in
-    either-length (eqb d 0) _ _ (length s) (put-length 2 4 _ _ ∙ a) a
-
-opened-bytes : (d e w : ℕ) (s : List ℕ) → Bytes s → Bytes (openedBytes d e w s)
-unfolding openedBytes cleared
-opened-bytes d e w s b =
-    let a = put-bytes 8 (openPlace d) w s b in
-    put-bytes 2 2 (e + 1) _ (put-bytes 2 0 (d + 1) _ (either-bytes (ltb d 63) _ _ (put-bytes 8 8 _ _ a) a))
-
-closed-bytes : (d : ℕ) (s : List ℕ) → Bytes s → Bytes (closedBytes d s)
-unfolding closedBytes rooted marked
-closed-bytes d s b =
-    let a = put-bytes 2 0 d _ (put-bytes 8 8 _ _ (put-bytes 8 (lastPlace d) (wordAt 8 s (openPlace d)) s b)) in
-    either-bytes (eqb d 0) _ _ (put-bytes 2 4 _ _ a) a
-
-root-small : (b : Bool) (r : ℕ) → r ≤ 1 → cond b 1 r ≤ 1
-root-small true r l = omega arith
-root-small false r l = l
-
--- Root closed is set only where nothing is open now, if it was not set before.
-root-shut : (d r : ℕ) → (r ≡ 1 → ⊥) → cond (eqb d 0) 1 r ≡ 1 → d ≡ 0
-root-shut d r n q = go (eqb d 0) refl q where
-  go : (b : Bool) → eqb d 0 ≡ b → cond b 1 r ≡ 1 → d ≡ 0
-  go true e p = eqb-true d 0 e
-  go false e p = absurd (n p)
-
-root-after : (b : Bool) (r : ℕ) → eqb (cond b 1 r) 1 ≡ cond b true (eqb r 1)
-root-after true r = refl
-root-after false r = refl
-
-module _ (es : List Entry) (s : List ℕ) (few : length es ≤ levelsMost) (good : Good s) where
-  -- The bytes after an opening that is taken are the opened state.
-  opened-state : (l : ℕ) → fault (stateOf s) (opens l) ≡ 0 → stateOf (written es s (opens l)) ≡ opened es (stateOf s) l
-  unfolding stateOf opened written
-  opened-state l z =
-      let r = opens-room s l z in
-      let w = openedWord es (stateOf s) l in
-      state-same (opened-depth (depthIn s) (elementsIn s) w s (good .long) (r .0) (r .1)) (opened-elements (depthIn s) (elementsIn s) w s (good .long) (r .0) (r .1))
-      (ap (λ (x : ℕ). eqb x 1) (opened-root (depthIn s) (elementsIn s) w s (good .long) (r .0) (r .1)))
-      (opened-presence (depthIn s) (elementsIn s) w s (good .long) (r .0) (r .1))
-      (opened-open (depthIn s) (elementsIn s) w s (good .long) (r .0) (r .1) (word-room es (stateOf s) l few))
-      (opened-last (depthIn s) (elementsIn s) w s (good .long) (r .0) (r .1))
-
-  -- The bytes after a closing that is taken are the closed state.
-  closed-state : Bytes s → fault (stateOf s) closes ≡ 0 → stateOf (written es s closes) ≡ closed (stateOf s)
-  unfolding stateOf closed written
-  closed-state bytes z =
-      let d = pred (depthIn s) in
-      let r = closes-room s z in
-      let h : d < levelsMost = omega (arith, good .shallow) in
-      state-same (closed-depth d s (good .long) h) (closed-elements d s (good .long) h)
-      (ap (λ (x : ℕ). eqb x 1) (closed-root d s (good .long) h) ∙ root-after (eqb d 0) (rootIn s))
-      (closed-presence d s (good .long) h) (closed-open d s (good .long) h)
-      (rw (listed-at levelsMost (λ i. wordAt 8 s (openPlace i)) d 0 h) (closed-last d s (good .long) h (word-small 8 s bytes (openPlace d))))
-
-  -- So the bytes after a tag that is taken are the state after it.
-  pub written-state : Bytes s → (t : Tag) → fault (stateOf s) t ≡ 0 → stateOf (written es s t) ≡ after es (stateOf s) t
-  unfolding after
-  written-state bytes (opens l) z = opened-state l z
-  written-state bytes closes z = closed-state bytes z
-
-  -- They pass the test again.
-  pub written-good : (t : Tag) → fault (stateOf s) t ≡ 0 → Good (written es s t)
-  unfolding written
-  written-good (opens l) z =
-      let r = opens-room s l z in
-      let w = openedWord es (stateOf s) l in
-      let d = opened-depth (depthIn s) (elementsIn s) w s (good .long) (r .0) (r .1) in
-      let e = opened-elements (depthIn s) (elementsIn s) w s (good .long) (r .0) (r .1) in
-      let f = opened-root (depthIn s) (elementsIn s) w s (good .long) (r .0) (r .1) in
-      let spare = opened-spare (depthIn s) (elementsIn s) w s (good .long) (r .0) (r .1) in
-      record {
-        long = opened-length (depthIn s) (elementsIn s) w s ∙ good .long;
-        shallow = omega (arith, d, r .0);
-        within = omega (arith, d, e, good .within);
-        few = omega (arith, e, r .1);
-        flag = omega (arith, f, good .flag);
-        shut = λ q. absurd (r .2 (sym f ∙ q));
-        spare = (spare 6 (omega arith) (omega arith) ∙ good .spare .0, spare 7 (omega arith) (omega arith) ∙ good .spare .1);
-      }
-  written-good closes z =
-      let k = pred (depthIn s) in
-      let r = closes-room s z in
-      let h : k < levelsMost = omega (arith, good .shallow) in
-      let d = closed-depth k s (good .long) h in
-      let e = closed-elements k s (good .long) h in
-      let f = closed-root k s (good .long) h in
-      let spare = closed-spare k s (good .long) h in
-      record {
-        long = closed-length k s ∙ good .long;
-        shallow = omega (arith, d, h);
-        within = omega (arith, d, e, good .within);
-        few = omega (arith, e, good .few);
-        flag = rw f (root-small (eqb k 0) (rootIn s) (good .flag));
-        shut = λ q. rw d (root-shut k (rootIn s) (λ x. omega (arith, good .shut x)) (sym f ∙ q));
-        spare = (spare 6 (omega arith) (omega arith) ∙ good .spare .0, spare 7 (omega arith) (omega arith) ∙ good .spare .1);
-      }
-
-  -- They are bytes again.
-  pub written-bytes : Bytes s → (t : Tag) → Bytes (written es s t)
-  unfolding written
-  written-bytes bytes (opens l) = opened-bytes (depthIn s) (elementsIn s) (openedWord es (stateOf s) l) s bytes
-  written-bytes bytes closes = closed-bytes (pred (depthIn s)) s bytes
+-- The place of a refused rule fits 32 bits.
+pub refused-place : (rule : List ℕ) (r : Answer) (k p : ℕ) → r ≡ ruleAnswer rule → r ≡ Refused k p → p ≤ ruleMost
+refused-place rule r k p e f = omega (arith, rule-small rule .place-in, ap placeOf (sym e ∙ f))

@@ -3,9 +3,9 @@
 use Prim.Native.Nat.{ℕ}
 use mathlib.Core.Path.{_≡_}
 use mathlib.Core.List.{List}
-use Rattle.records.proofs.Only.{only}
 use Rattle.onepass.specs.Step.{Started, Opened, Closed}
 use Rattle.onepass.specs.declared.export.StepReply.{StepReply}
+use Rattle.numbers.proofs.Only.{only}
 
 -- What start answers and leaves.
 pub pz-start-only : (s : List ℕ) {r r′ : StepReply} {after after′ : List ℕ} → Started s r after → Started s r′ after′

@@ -5,9 +5,9 @@ use mathlib.Core.Bool.{cond}
 use mathlib.Core.List.{List, [], _∷_, _++_}
 use mathlib.Core.Path.{_≡_}
 use lib.Dec.{eqb}
-use Rattle.records.specs.Report.{reportAnswer}
-use Rattle.records.specs.Tags.{Tag, opens, closes}
-use Rattle.records.specs.declared.answer.Answer.the-variants.{Accepted}
+use Rattle.reports.specs.Report.{reportAnswer}
+use Rattle.reports.specs.Tags.{Tag, opens, closes}
+use Rattle.terms.specs.declared.answer.Answer.the-variants.{Accepted}
 use Rattle.grammar.specs.Bytes.{Bytes}
 use Rattle.grammar.specs.Reports.{bytesOf}
 use Rattle.onepass.specs.Step.{Opened, Closed}

@@ -10,8 +10,8 @@ use lib.Dec.{eqb}
 use lib.ListN.{length, drop}
 use Rattle.text.specs.Text.{ascii}
 use Rattle.text.specs.Decimal.{decimal}
-use Rattle.records.specs.declared.kind.Axis.{Axis}
-use Rattle.records.specs.declared.kind.Axis.the-variants.{Child as child, Parent as parent, Next as right, Previous as left}
+use Rattle.terms.specs.declared.kind.Axis.{Axis}
+use Rattle.terms.specs.declared.kind.Axis.the-variants.{Child as child, Parent as parent, Next as right, Previous as left}
 use Rattle.paths.specs.Syntax.{along, along*, GoodT}
 use Rattle.paths.specs.Spelling.{axisWord, orWord, gap, piecesT, signByte}
 use Rattle.paths.specs.Translation.{neighbourKind, untilKind}
@@ -29,7 +29,7 @@ use Rattle.parse.specs.declared.begins.Start.the-variants as S
 use Rattle.parse.specs.Promises.{headOf, WordAt, OrAt, NumberAt, Lettered, LettersAt, BeginsAt, NamedAt, AxisAt, While, Opens, StartAt, noteTest}
 use Rattle.parse.specs.Rows.{formOf, leafTree, testEntries, testBytes}
 use Rattle.parse.proofs.WordLaws.{front}
-use Rattle.records.specs.Limits.{labelMost}
+use Rattle.terms.specs.Limits.{labelMost}
 
 -- `or`
 or-words : (w : Bool) (K : List Expected) (s : List ℕ) → run w (alternative ∷ K) s ≡ run w (spelt (gap w ++ orWord) K) s

@@ -15,7 +15,7 @@ use Rattle.parse.specs.declared.tree.Parsed.{Parsed}
 use Rattle.parse.specs.declared.tree.Parsed.the-variants.{Done, Bad}
 use Rattle.parse.specs.Rows.{noteRow, formEntries, formBytes, leafTree, noteT}
 use Rattle.parse.specs.Promises.{WordAt, leafBytes, Small, Shut, Closing, Excepted, EitherOf, StepOf}
-use Rattle.records.specs.Limits.{entriesMost}
+use Rattle.terms.specs.Limits.{entriesMost}
 use Rattle.paths.specs.Answer.{textMost}
 
 -- ---- forms and rows

@@ -6,9 +6,9 @@ use mathlib.Core.Bool.{Bool, true, false}
 use mathlib.Core.List.{List, [], _∷_, _++_}
 use borrow.Author.Tests.{ne-eqb}
 use lib.ListN.{length, drop}
-use Rattle.records.specs.Kinds.{rowOf}
-use Rattle.records.specs.declared.kind.Axis.{Axis}
-use Rattle.records.specs.declared.kind.Axis.the-variants.{Child as child, Parent as parent, Next as right, Previous as left}
+use Rattle.terms.specs.Kinds.{rowOf}
+use Rattle.terms.specs.declared.kind.Axis.{Axis}
+use Rattle.terms.specs.declared.kind.Axis.the-variants.{Child as child, Parent as parent, Next as right, Previous as left}
 use Rattle.paths.specs.Syntax.{Test, except, either, begins, Path, only, _then_, Step, along, along*, passing, while, GoodT, GoodS}
 use Rattle.paths.specs.Spelling.{word, sign, closing, greater, slash, star, axisWord, orWord, notWord, gap, piecesT, piecesP, piecesS, signByte}
 use Rattle.paths.specs.Translation.{neighbourKind, untilKind}

@@ -10,7 +10,7 @@ use borrow.Author.Tests.{ne-eqb, eq-eqb, eqb-true, leb-true, le-leb}
 use lib.Dec.{eqb, leb}
 use lib.ListN.{length, getD, drop, drop-of-length-le}
 use lib.Seq.{drop-cons, drop-drop}
-use Rattle.grammar.proofs.Tells.{and-true}
+use Rattle.numbers.proofs.Tells.{and-true}
 use Rattle.text.specs.Decimal.{digit}
 use Rattle.text.proofs.DecimalLaws.{decimal-one}
 use Rattle.paths.proofs.Machine.{number, run, next, ended, isDigit}

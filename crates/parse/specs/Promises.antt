@@ -8,7 +8,7 @@ use mathlib.Core.List.{List, [], _∷_, _++_}
 use lib.ListN.{length, drop}
 use lib.Dec.{leb}
 use Rattle.text.specs.Decimal.{decimal}
-use Rattle.records.specs.declared.kind.Axis.{Axis}
+use Rattle.terms.specs.declared.kind.Axis.{Axis}
 use Rattle.paths.specs.Syntax.{Test, Path, Step, along, along*, passing, while, GoodT, GoodP, GoodS}
 use Rattle.paths.specs.Spelling.{greater, sign, axisWord, notWord, orWord, gap, piecesT, piecesP, piecesS, textOf, Text, StopsAt}
 use Rattle.paths.specs.Translation.{neighbourKind, tableOf}
@@ -30,7 +30,7 @@ use Rattle.parse.specs.declared.tree.Parsed.the-variants.{Done, Bad}
 use Rattle.parse.specs.declared.tree.Outcome.{Outcome}
 use Rattle.parse.specs.declared.tree.Outcome.the-variants as O
 use Rattle.parse.specs.Rows.{noRows, noteRow, formOf, formEntries, formBytes, leafTree, testEntries, testBytes, noteT, noteP, noteS}
-use Rattle.records.specs.Limits.{labelMost}
+use Rattle.terms.specs.Limits.{labelMost}
 
 -- ---- bytes, words and numbers
 

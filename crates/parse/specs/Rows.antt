@@ -25,7 +25,7 @@ use lib.Seq.{sets}
 use Rattle.paths.specs.Syntax.{Test, everywhere, labelled, except, either, begins, Path, only, _then_, Step, along, along*, passing, while}
 use Rattle.paths.specs.Translation.{neighbourKind, untilKind}
 use Rattle.paths.proofs.Count.{weightT, weightP, weightS, recordLength}
-use Rattle.records.specs.Limits.{entriesMost}
+use Rattle.terms.specs.Limits.{entriesMost}
 
 -- A table without rows.
 abbrev pub noRows : List ℕ

@@ -10,13 +10,13 @@ use borrow.Author.Tests.{le-leb}
 use Rattle.text.specs.Text.{ascii}
 use Rattle.text.specs.Decimal.{digit, decimal}
 use Rattle.text.proofs.DecimalLaws.{decimal-one, decimal-more}
-use Rattle.records.specs.declared.kind.Axis.{Axis}
-use Rattle.records.specs.declared.kind.Axis.the-variants.{Child as child, Parent as parent, Next as right, Previous as left}
+use Rattle.terms.specs.declared.kind.Axis.{Axis}
+use Rattle.terms.specs.declared.kind.Axis.the-variants.{Child as child, Parent as parent, Next as right, Previous as left}
 use Rattle.paths.specs.Syntax.{Test, everywhere, labelled, except, either, begins, Path, only, _then_, Step, along, along*, passing, while, GoodT, GoodP, GoodS}
 use Rattle.paths.specs.Spelling.{Sign, opening, closing, less, greater, slash, question, star, Piece, word, sign, axisWord, trueWord, labelWord, notWord, orWord, piecesT, piecesP, piecesS, signByte, gap, textOf}
 use Rattle.paths.proofs.Ahead.{wordyT, wordyS, ahead, spell-ahead}
 use Rattle.paths.proofs.Machine.{Expected, byte, test, alternative, number, twoDigits, oneDigit, path, axis, afterAxis, afterStep, isDigit, isWord, choices, pick, next, ended, whole, run}
-use Rattle.records.specs.Limits.{labelMost}
+use Rattle.terms.specs.Limits.{labelMost}
 
 -- The bytes begin with no digit.
 unfoldable pub NoDigit : List ℕ → Type 0

@@ -8,9 +8,9 @@ use mathlib.Core.List.{List, [], _∷_}
 use borrow.Author.Tests.{eq-eqb}
 use lib.ListN.{length, length-append}
 use lib.Seq.{getD-append-seam}
-use Rattle.records.specs.declared.rule.Entry.{Entry}
+use Rattle.rules.specs.declared.rule.Entry.{Entry}
 use Rattle.grammar.specs.Rules.{noEntry}
-use Rattle.records.specs.Kinds.{shapeOf}
+use Rattle.terms.specs.Kinds.{shapeOf}
 use Rattle.meaning.specs.Meaning.{Means, Below, Holds}
 use Rattle.meaning.proofs.Behind.{below-holds, below-kept, holds-kept}
 use Rattle.paths.specs.Translation.{put, entry}

@@ -35,10 +35,10 @@ unfoldable pub placeOf : List ℕ → Outcome → ℕ
 placeOf s whole = suc (length s)
 placeOf s (stopped left) = length s - length left
 
-unfoldable pub found : List Fault → List Fault
-found [] = []
-found (f ∷ fs) = record { text = f .text; place = placeOf (f .text) (run false (test ∷ []) (f .text)) } ∷ found fs
+unfoldable pub placedFaults : List Fault → List Fault
+placedFaults [] = []
+placedFaults (f ∷ fs) = record { text = f .text; place = placeOf (f .text) (run false (test ∷ []) (f .text)) } ∷ placedFaults fs
 
-pub faults-right : found faults ≡ faults
-unfolding found faults placeOf times ascii run next choices pick ended isWord isDigit
+pub faults-right : placedFaults faults ≡ faults
+unfolding placedFaults faults placeOf times ascii run next choices pick ended isWord isDigit
 faults-right = refl

@@ -10,14 +10,14 @@ use borrow.Author.Tests.{leb-true, eqb-true}
 use Rattle.text.specs.Text.{ascii}
 use Rattle.text.specs.Decimal.{digit, decimal}
 use Rattle.text.proofs.DecimalLaws.{decimal-one, decimal-more}
-use Rattle.records.specs.declared.kind.Axis.{Axis}
-use Rattle.records.specs.declared.kind.Axis.the-variants.{Child as child, Parent as parent, Next as right, Previous as left}
-use Rattle.grammar.proofs.Tells.{and-true}
+use Rattle.terms.specs.declared.kind.Axis.{Axis}
+use Rattle.terms.specs.declared.kind.Axis.the-variants.{Child as child, Parent as parent, Next as right, Previous as left}
+use Rattle.numbers.proofs.Tells.{and-true}
 use Rattle.paths.specs.Syntax.{Test, everywhere, labelled, except, either, begins, Path, only, _then_, Step, along, along*, passing, while, GoodT, GoodP, GoodS}
 use Rattle.paths.specs.Spelling.{closing, greater, slash, star, word, sign, axisWord, orWord, piecesT, piecesP, piecesS, signByte, gap, textOf, Text}
 use Rattle.paths.proofs.Machine.{Expected, byte, test, lettered, alternative, number, twoDigits, oneDigit, path, axis, afterAxis, afterStep, isDigit, isWord, Choice, letters, axes, goingOn, choices, pick, next, ended, whole, stopped, onward, run}
 use Rattle.paths.proofs.Ahead.{wordyT, ahead, spell-ahead, ahead-test, ahead-step}
-use Rattle.records.specs.Limits.{labelMost}
+use Rattle.terms.specs.Limits.{labelMost}
 
 -- ---- what a stack stands for
 

@@ -14,8 +14,8 @@ use Rattle.text.specs.Text.{ascii}
 use Rattle.text.specs.Decimal.{decimal, valueOf}
 use Rattle.text.proofs.DecimalLaws.{Every, Digit, decimal-back, decimal-digits, decimal-some}
 use Rattle.text.proofs.TextLaws.{every-weaken}
-use Rattle.records.specs.declared.kind.Axis.{Axis}
-use Rattle.records.specs.declared.kind.Axis.the-variants.{Child as child, Parent as parent, Next as right, Previous as left}
+use Rattle.terms.specs.declared.kind.Axis.{Axis}
+use Rattle.terms.specs.declared.kind.Axis.the-variants.{Child as child, Parent as parent, Next as right, Previous as left}
 use Rattle.paths.specs.Syntax.{Test, everywhere, labelled, except, either, begins, Path, only, _then_, Step, along, along*, passing, while}
 use Rattle.paths.specs.Spelling.{Sign, opening, closing, less, greater, slash, question, star, Piece, word, sign, axisWord, trueWord, labelWord, notWord, orWord, piecesT, piecesP, piecesS, signByte, gap, spell, textOf}
 use Rattle.paths.proofs.Machine.{isDigit, isWord}

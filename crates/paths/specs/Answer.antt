@@ -5,7 +5,7 @@ use Prim.Native.Nat.{ℕ, _≤_, _<_}
 use mathlib.Core.Path.{_≡_}
 use mathlib.Core.List.{List, []}
 use lib.ListN.{length}
-use Rattle.records.specs.Limits.{entriesMost}
+use Rattle.terms.specs.Limits.{entriesMost}
 use Rattle.grammar.specs.When.{Sized}
 use Rattle.grammar.specs.Rules.{ruleBytes}
 use Rattle.paths.specs.Syntax.{Test, GoodT}

@@ -1,11 +1,11 @@
 // The readers as C calls them; include/polonezar.h declares them.
 ghost use mathlib.Core.Path.{_≡_};
-ghost use Rattle.records.specs.Rule.{ruleAnswer};
-ghost use Rattle.records.specs.Report.{reportAnswer};
+ghost use Rattle.rules.specs.Rule.{ruleAnswer};
+ghost use Rattle.reports.specs.Report.{reportAnswer};
 ghost use Rattle.records.specs.Reply.{ruleReply, reportReply};
-use crate::answer::Answer;
-use crate::report::read_report;
-use crate::rule::read_rule;
+use reports::report::read_report;
+use rules::rule::read_rule;
+use terms::answer::Answer;
 
 // What the rule reader answers: document 01's number, the place, and how many entries.
 #[repr(C)]

@@ -8,7 +8,7 @@ use mathlib.Core.Bool.{Bool, true, false, cond, not, _||_}
 use mathlib.Core.Logic.{_⊎_, inl, inr, ⊎-elim}
 use borrow.Author.Tests.{eqb-true, eqb-false}
 use lib.Dec.{eqb}
-use Rattle.tally.specs.Tally.{refused, risen, Tallied}
+use Rattle.tally.specs.Tally.{tallyRefused, risen, Tallied}
 use Rattle.tally.specs.declared.Tally.{Tally}
 use Rattle.tally.specs.declared.Counted.{Counted}
 
@@ -26,8 +26,8 @@ clash e = absurd (let k : _≡_ {A = ℕ} 0 1 = cc in omega arith)
 -- ---- when a tally is refused
 
 -- A tally that is not refused is not full, and is in balance.
-pub refused-not : (t : Tally) → refused t ≡ false → (Full t → ⊥) × Balanced t
-unfolding refused
+pub refused-not : (t : Tally) → tallyRefused t ≡ false → (Full t → ⊥) × Balanced t
+unfolding tallyRefused
 refused-not t = go (eqb (t .seen) 4294967295) (eqb (t .seen) (t .selected + t .«passed_over»)) refl refl
   where
     go : (a b : Bool) → eqb (t .seen) 4294967295 ≡ a → eqb (t .seen) (t .selected + t .«passed_over») ≡ b → a || not b ≡ false
@@ -37,8 +37,8 @@ refused-not t = go (eqb (t .seen) 4294967295) (eqb (t .seen) (t .selected + t .�
     go false true p q z = (eqb-false _ _ p, eqb-true _ _ q)
 
 -- A tally that is refused is full or out of balance.
-refused-is : (t : Tally) → refused t ≡ true → Full t ⊎ (Balanced t → ⊥)
-unfolding refused
+refused-is : (t : Tally) → tallyRefused t ≡ true → Full t ⊎ (Balanced t → ⊥)
+unfolding tallyRefused
 refused-is t = go (eqb (t .seen) 4294967295) (eqb (t .seen) (t .selected + t .«passed_over»)) refl refl
   where
     go : (a b : Bool) → eqb (t .seen) 4294967295 ≡ a → eqb (t .seen) (t .selected + t .«passed_over») ≡ b → a || not b ≡ true
@@ -50,29 +50,29 @@ refused-is t = go (eqb (t .seen) 4294967295) (eqb (t .seen) (t .selected + t .«
 -- ---- what counting answers
 
 -- A refused tally is answered 12 and stays as it was.
-pub tallied-refused : (t : Tally) (verdict : Bool) → refused t ≡ true → Tallied t verdict 12 t
+pub tallied-refused : (t : Tally) (verdict : Bool) → tallyRefused t ≡ true → Tallied t verdict 12 t
 tallied-refused t verdict e = record { number-is = rw e; tally-is = rw e }
 
 -- Any other tally is answered 0 and rises by the verdict.
-pub tallied-taken : (t : Tally) {verdict b : Bool} → refused t ≡ false → verdict ≡ b → Tallied t verdict 0 (risen t b)
+pub tallied-taken : (t : Tally) {verdict b : Bool} → tallyRefused t ≡ false → verdict ≡ b → Tallied t verdict 0 (risen t b)
 tallied-taken t e v = record { number-is = rw e; tally-is = rw (e, v) }
 
 -- 12 is given exactly when the tally is full or out of balance.
 pub twelve-iff : {t : Tally} {verdict : Bool} {number : ℕ} {after : Tally} → Tallied t verdict number after
     → (number ≡ 12 → Full t ⊎ (Balanced t → ⊥)) × (Full t ⊎ (Balanced t → ⊥) → number ≡ 12)
-twelve-iff {t} r = (λ e. only (refused t) refl (sym e ∙ r .number-is), λ w. r .number-is ∙ gives (refused t) refl w)
+twelve-iff {t} r = (λ e. only (tallyRefused t) refl (sym e ∙ r .number-is), λ w. r .number-is ∙ gives (tallyRefused t) refl w)
   where
-    only : (b : Bool) → refused t ≡ b → _≡_ {A = ℕ} 12 (cond b 12 0) → Full t ⊎ (Balanced t → ⊥)
+    only : (b : Bool) → tallyRefused t ≡ b → _≡_ {A = ℕ} 12 (cond b 12 0) → Full t ⊎ (Balanced t → ⊥)
     only true p z = refused-is t p
     only false p z = absurd (omega arith)
 
-    gives : (b : Bool) → refused t ≡ b → Full t ⊎ (Balanced t → ⊥) → _≡_ {A = ℕ} (cond b 12 0) 12
+    gives : (b : Bool) → tallyRefused t ≡ b → Full t ⊎ (Balanced t → ⊥) → _≡_ {A = ℕ} (cond b 12 0) 12
     gives true p w = refl
     gives false p w = absurd (⊎-elim (refused-not t p .0) (λ h. h (refused-not t p .1)) w)
 
 -- Where 12 is given, the tally is as it was.
 pub twelve-kept : {t : Tally} {verdict : Bool} {number : ℕ} {after : Tally} → Tallied t verdict number after → number ≡ 12 → after ≡ t
-twelve-kept {t} {verdict} r e = r .tally-is ∙ go (refused t) (sym e ∙ r .number-is)
+twelve-kept {t} {verdict} r e = r .tally-is ∙ go (tallyRefused t) (sym e ∙ r .number-is)
   where
     go : (b : Bool) → _≡_ {A = ℕ} 12 (cond b 12 0) → cond b t (risen t verdict) ≡ t
     go true z = refl

@@ -8,8 +8,8 @@ use lib.Dec.{eqb}
 use Rattle.tally.specs.declared.Tally.{Tally}
 
 -- The tally is full, or seen is not the sum of the others: the exact sum, of natural numbers.
-unfoldable pub refused : Tally → Bool
-refused t = eqb (t .seen) 4294967295 || not (eqb (t .seen) (t .selected + t .«passed_over»))
+unfoldable pub tallyRefused : Tally → Bool
+tallyRefused t = eqb (t .seen) 4294967295 || not (eqb (t .seen) (t .selected + t .«passed_over»))
 
 -- The tally with one verdict more: seen rises by 1, and so does selected for a true verdict, or passed over for a false one.
 unfoldable pub risen : Tally → Bool → Tally
@@ -27,5 +27,5 @@ truthOf verdict = not (eqb verdict 0)
 -- What counting a verdict answers, and the tally afterwards: 12 and the tally as it was, or 0 and the tally with one verdict more.
 -- Both functions promise it, the one that takes and returns the tally, and the one that alters it where it stands.
 pub record Tallied (t : Tally) (verdict : Bool) (number : ℕ) (after : Tally) : Type 0 where
-  pub number-is : number ≡ cond (refused t) 12 0
-  pub tally-is : after ≡ cond (refused t) t (risen t verdict)
+  pub number-is : number ≡ cond (tallyRefused t) 12 0
+  pub tally-is : after ≡ cond (tallyRefused t) t (risen t verdict)

@@ -1,7 +1,7 @@
 // The running tally: how many verdicts were seen, how many of them were true (selected), and how
 // many were false (passed over). Document 01, "Tally".
 ghost use mathlib.Core.Path.{_≡_};
-ghost use Rattle.tally.specs.Tally.{refused, Tallied, truthOf};
+ghost use Rattle.tally.specs.Tally.{tallyRefused, Tallied, truthOf};
 
 // Three counts that C lends and this crate alters where they stand.
 #[repr(C)]
@@ -20,7 +20,7 @@ pub struct Counted {
 // Whether the tally is full, or seen is not the sum of the others. The sum is made in 64 bits, where
 // it cannot wrap.
 fn is_refused(t: Tally) -> bool
-    ensures { λ r. ⌜ r ≡ refused t ⌝ }
+    ensures { λ r. ⌜ r ≡ tallyRefused t ⌝ }
 {
     (t.seen == 4294967295) | (t.seen as u64 != t.selected as u64 + t.passed_over as u64)
 }

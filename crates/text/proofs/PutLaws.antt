@@ -12,6 +12,7 @@ use lib.Seq.{sets, take-suc, take-all}
 use Rattle.text.specs.Text.{headerLine, elementLine, closingLine, elementLines, acceptedText}
 use Rattle.text.proofs.TextLaws.{elements-more, accepted-is}
 use Rattle.text.specs.Rendered.{bufferSize, putAt, Put, Rendered}
+use Rattle.numbers.specs.Lists.{listed}
 
 -- Nothing is put.
 pub put-none : (out : List ℕ) (at : ℕ) → Put [] out at (at + 0) out
@@ -60,7 +61,7 @@ put-all word {i = i} h p = put-as (take-all i word h) p
 -- No element's line has been put.
 pub elements-none : (labels levels : List ℕ) (verdicts : ℕ → Bool) (out : List ℕ) (at : ℕ)
     → Put (flatten (elementLines labels levels verdicts 0)) out at at out
-unfolding elementLines flatten putAt
+unfolding elementLines listed flatten putAt
 elements-none labels levels verdicts out at = record { next-is = sym (add-zero at); bytes-are = refl }
 
 -- One turn of the loop over the elements: the lines of the first k have been put, and element k's is.

@@ -6,11 +6,11 @@ use mathlib.Core.Path.{_≡_}
 use mathlib.Core.Bool.{Bool, true, false}
 use mathlib.Core.List.{List, [], _∷_, _++_}
 use lib.ListN.{length, length-append}
-use Rattle.meaning.specs.Marks.{bit}
 use Rattle.text.specs.Decimal.{decimal}
 use Rattle.text.specs.Text.{space, lineFeed, field, phrase, elementLine}
 use Rattle.text.proofs.DecimalLaws.{decimal-short}
-use Rattle.records.specs.Limits.{elementsMost}
+use Rattle.terms.specs.Limits.{elementsMost}
+use Rattle.numbers.specs.Bits.{bit}
 
 -- A field is one byte longer than its number.
 pub field-length : (x end : ℕ) → length (field x end) ≡ length (decimal x) + 1

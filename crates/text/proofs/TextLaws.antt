@@ -4,7 +4,6 @@
 use Prim.Native.Nat.{ℕ, zero, suc, _+_, _<_}
 use native.Mathlib.Omega.{arith}
 use native.Mathlib.Numerals.{add-one}
-use native.Mathlib.Decide.{decLt}
 use borrow.Author.Tests.{ne-eqb, eqb-false}
 use mathlib.Core.Path.{_≡_, refl, sym, ap, _∙_}
 use mathlib.Core.Bool.{Bool, true, false, not, _&&_}
@@ -12,12 +11,14 @@ use mathlib.Core.List.{List, [], _∷_, _++_, flatten, append-assoc, append-nil}
 use lib.Dec.{eqb}
 use lib.ListN.{length, getD, length-append, List·getD-append}
 use lib.Seq.{append-snoc, getD-at}
-use Rattle.meaning.specs.Marks.{bit}
 use Rattle.text.specs.Decimal.{decimal}
 use Rattle.text.specs.Text.{ascii, space, lineFeed, field, phrase, refusedLine, headerLine, elementLine, closingLine}
 use Rattle.text.specs.Text.{lineOf, elementLines, acceptedLines, acceptedText}
 use Rattle.text.specs.Lines.{linesFrom, linesIn}
 use Rattle.text.proofs.DecimalLaws.{Every, every-append, every-one, Digit, decimal-digits}
+use Rattle.numbers.specs.Bits.{bit}
+use Rattle.numbers.specs.Lists.{listed}
+use Rattle.numbers.proofs.Lists.{listed-length, listed-at}
 
 -- ---- bytes that are no line feed
 
@@ -147,7 +148,7 @@ flatten-last ls l = flatten-append ls (l ∷ []) ∙ ap (λ (r : List ℕ). flat
 
 module _ (labels levels : List ℕ) (verdicts : ℕ → Bool) where
   element-lines : (n : ℕ) → AllLines (elementLines labels levels verdicts n)
-  unfolding elementLines AllLines
+  unfolding elementLines listed AllLines
   element-lines zero = tt
   element-lines (suc k) =
       lines-append (elementLines labels levels verdicts k) (lineOf labels levels verdicts k ∷ []) (element-lines k)
@@ -167,7 +168,7 @@ module _ (labels levels : List ℕ) (verdicts : ℕ → Bool) where
   -- The text of the lines of one element more.
   pub elements-more : (k : ℕ) → flatten (elementLines labels levels verdicts (k + 1))
       ≡ flatten (elementLines labels levels verdicts k) ++ lineOf labels levels verdicts k
-  unfolding elementLines
+  unfolding elementLines listed
   elements-more k =
       ap (λ (i : ℕ). flatten (elementLines labels levels verdicts i)) (add-one k)
       ∙ flatten-last (elementLines labels levels verdicts k) (lineOf labels levels verdicts k)
@@ -178,47 +179,28 @@ module _ (labels levels : List ℕ) (verdicts : ℕ → Bool) where
   unfolding acceptedText acceptedLines flatten
   accepted-is n selected = ap (λ (r : List ℕ). headerLine ++ r) (flatten-last (elementLines labels levels verdicts n) (closingLine selected n))
 
-  element-count : (n : ℕ) → length (elementLines labels levels verdicts n) ≡ n
-  unfolding elementLines
-  element-count zero = refl
-  element-count (suc k) =
-      length-append (elementLines labels levels verdicts k) (lineOf labels levels verdicts k ∷ [])
-      ∙ add-one (length (elementLines labels levels verdicts k)) ∙ ap suc (element-count k)
-
   -- As many lines as elements, and two.
   pub accepted-count : (n selected : ℕ) → length (linesIn (acceptedText labels levels verdicts n selected)) ≡ n + 2
-  unfolding acceptedLines
+  unfolding acceptedLines elementLines
   accepted-count n selected =
       ap length (accepted-back n selected)
-      ∙ omega (arith, length-append (elementLines labels levels verdicts n) (closingLine selected n ∷ []), element-count n)
-
-  element-at : (n k : ℕ) → k < n → getD (elementLines labels levels verdicts n) k [] ≡ lineOf labels levels verdicts k
-  unfolding elementLines
-  element-at zero k h = absurd (omega arith)
-  element-at (suc n) k h = elim (decLt k n) [
-    | yes l ↦
-        List·getD-append (elementLines labels levels verdicts n) (lineOf labels levels verdicts n ∷ []) [] k (rw element-count l) ∙ element-at n k l
-    | no l ↦
-        let e : k ≡ n = omega arith in
-        getD-at (elementLines labels levels verdicts n) (lineOf labels levels verdicts n) [] [] k (element-count n ∙ sym e)
-        ∙ ap (lineOf labels levels verdicts) (sym e)
-  ]
+      ∙ omega (arith, length-append (elementLines labels levels verdicts n) (closingLine selected n ∷ []), listed-length n (lineOf labels levels verdicts))
 
   -- Line k + 1 is element k's: none is left out, and they stand in order.
   pub accepted-at : (n selected k : ℕ) → k < n
       → getD (linesIn (acceptedText labels levels verdicts n selected)) (suc k) [] ≡ lineOf labels levels verdicts k
-  unfolding acceptedLines
+  unfolding acceptedLines elementLines
   accepted-at n selected k h =
       ap (λ (ls : List (List ℕ)). getD ls (suc k) []) (accepted-back n selected)
-      ∙ List·getD-append (elementLines labels levels verdicts n) (closingLine selected n ∷ []) [] k (rw element-count h)
-      ∙ element-at n k h
+      ∙ List·getD-append (elementLines labels levels verdicts n) (closingLine selected n ∷ []) [] k (rw listed-length h)
+      ∙ listed-at n _ k [] h
 
   -- The line past the elements' is the closing one.
   pub accepted-last : (n selected : ℕ) → getD (linesIn (acceptedText labels levels verdicts n selected)) (suc n) [] ≡ closingLine selected n
-  unfolding acceptedLines
+  unfolding acceptedLines elementLines
   accepted-last n selected =
       ap (λ (ls : List (List ℕ)). getD ls (suc n) []) (accepted-back n selected)
-      ∙ getD-at (elementLines labels levels verdicts n) (closingLine selected n) [] [] n (element-count n)
+      ∙ getD-at (elementLines labels levels verdicts n) (closingLine selected n) [] [] n (listed-length n _)
 
 -- The text of a refusal is one line.
 pub refused-back : (number place : ℕ) → linesIn (refusedLine number place) ≡ refusedLine number place ∷ []

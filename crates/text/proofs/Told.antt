@@ -7,12 +7,12 @@ use mathlib.Core.Bool.{Bool, true, false}
 use mathlib.Core.List.{List, [], _∷_, _++_, append-assoc}
 use lib.ListN.{length, getD, drop}
 use lib.Seq.{drop-append-seam}
-use Rattle.meaning.specs.Marks.{bit}
 use Rattle.text.specs.Decimal.{decimal}
 use Rattle.text.specs.Text.{ascii, space, lineFeed, field, phrase, refusedLine, elementLine, closingLine, acceptedText}
 use Rattle.text.specs.Lines.{linesIn}
 use Rattle.text.proofs.DecimalLaws.{Every, Digit, decimal-digits, decimal-only}
 use Rattle.text.proofs.TextLaws.{accepted-count, accepted-at, accepted-last}
+use Rattle.numbers.specs.Bits.{bit}
 
 -- Digits up to the first byte that is none.
 cut-only : (xs ys r s : List ℕ) (end : ℕ) → (Digit end → ⊥) → Every Digit xs → Every Digit ys → xs ++ (end ∷ r) ≡ ys ++ (end ∷ s)

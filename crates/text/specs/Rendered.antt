@@ -8,9 +8,9 @@ use mathlib.Core.List.{List, flatten}
 use lib.Dec.{ltb}
 use lib.ListN.{length, getD}
 use lib.Seq.{sets}
-use Rattle.meaning.specs.Marks.{bitAt}
 use Rattle.text.specs.Text.{elementLines, acceptedText}
-use Rattle.records.specs.Limits.{elementsMost}
+use Rattle.terms.specs.Limits.{elementsMost}
+use Rattle.numbers.specs.Bits.{bitAt}
 
 -- How many bytes the buffer has.
 abbrev pub bufferSize : ℕ

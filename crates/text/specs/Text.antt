@@ -2,14 +2,15 @@
 -- "The program".
 -- Shuts out: an element left out, or told twice; places and numbers exchanged; a line that does not end.
 -- Laws: proofs/TextLaws.antt. Assumes nothing.
-use Prim.Native.Nat.{ℕ, zero, suc}
+use Prim.Native.Nat.{ℕ}
 use Prim.Native.String.{String, [] as none, _∷_ as _then_}
 use Prim.Native.Char.{code}
 use mathlib.Core.Bool.{Bool}
 use mathlib.Core.List.{List, [], _∷_, _++_, flatten}
 use lib.ListN.{getD}
-use Rattle.meaning.specs.Marks.{bit}
 use Rattle.text.specs.Decimal.{decimal}
+use Rattle.numbers.specs.Bits.{bit}
+use Rattle.numbers.specs.Lists.{listed}
 
 -- The bytes of a text in ASCII.
 unfoldable pub ascii : String → List ℕ
@@ -54,8 +55,7 @@ module _ (labels levels : List ℕ) (verdicts : ℕ → Bool) where
 
   -- The lines of the first n elements, in order.
   unfoldable pub elementLines : ℕ → List (List ℕ)
-  elementLines zero = []
-  elementLines (suc k) = elementLines k ++ (lineOf k ∷ [])
+  elementLines n = listed n lineOf
 
   -- The lines for n elements, so many of them selected.
   unfoldable pub acceptedLines : (n selected : ℕ) → List (List ℕ)

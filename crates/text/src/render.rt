@@ -4,13 +4,13 @@ ghost use Prim.Native.Nat.{_+_, _*_, _≤_, _<_};
 ghost use lib.ListN.{length};
 ghost use Rattle.text.specs.Text.{refusedLine, elementLine};
 ghost use Rattle.text.specs.Rendered.{Put, Rendered, clamped, tableLines, tableText, bufferSize};
-ghost use Rattle.records.specs.Limits.{elementsMost};
+ghost use Rattle.terms.specs.Limits.{elementsMost};
 use crate::put::TEXT_BYTES;
 use crate::put::put_field;
 use crate::put::put_phrase;
 use crate::put::put_word;
-use bits::bit_at;
-use records::limits::ELEMENTS_MOST;
+use numbers::bits::bit_at;
+use terms::limits::ELEMENTS_MOST;
 
 // Puts an element's number, label, level and verdict.
 fn put_element(

@@ -9,15 +9,15 @@ use mathlib.Core.Logic.{_⊎_, inl, inr, _↔_}
 use lib.Dec.{leb}
 use lib.ListN.{length, drop, length-append}
 use lib.Seq.{sets}
-use Rattle.records.specs.Kinds.{rowOf}
-use Rattle.records.specs.declared.rule.Entry.{Entry}
+use Rattle.terms.specs.Kinds.{rowOf}
+use Rattle.rules.specs.declared.rule.Entry.{Entry}
 use Rattle.grammar.specs.Bytes.{twoBytes}
 use Rattle.grammar.specs.Rules.{bodyOf, recordOf, ruleBytes}
 use Rattle.grammar.specs.When.{Sized}
 use Rattle.paths.specs.Syntax.{Test}
 use Rattle.paths.specs.Spelling.{Text, StopsAt}
 use Rattle.paths.specs.Translation.{tableOf}
-use Rattle.records.specs.Limits.{entriesMost, ruleMost}
+use Rattle.terms.specs.Limits.{entriesMost, ruleMost}
 use Rattle.paths.specs.Answer.{textMost, TextOf, bytesFor, Gets, bad-size, no-text, too-many, no-room, taken}
 use Rattle.paths.proofs.Answer.{gets-only}
 use Rattle.parse.specs.Rows.{HeldT}

@@ -3,16 +3,16 @@ use Prim.Native.Nat.{ℕ, _≤_, _<_}
 use native.Mathlib.Omega.{arith}
 use mathlib.Core.Path.{_≡_, refl}
 use mathlib.Core.List.{List, [], _∷_}
-use Rattle.records.specs.declared.rule.Entry.{Entry}
-use Rattle.records.specs.declared.kind.Axis.{Axis}
-use Rattle.records.specs.declared.kind.Axis.the-variants.{Child as child, Parent as parent, Next as right, Previous as left}
+use Rattle.rules.specs.declared.rule.Entry.{Entry}
+use Rattle.terms.specs.declared.kind.Axis.{Axis}
+use Rattle.terms.specs.declared.kind.Axis.the-variants.{Child as child, Parent as parent, Next as right, Previous as left}
 use Rattle.paths.specs.Syntax.{Test, everywhere, labelled, except, either, begins, Path, only, _then_, Step, along, along*, passing, while}
 use Rattle.paths.specs.Translation.{neighbourKind, untilKind, putT, putP, putS}
 use Rattle.parse.specs.Rows.{formOf, Row, HeldT, HeldP, HeldS}
 use Rattle.typing.specs.declared.part.Part.{Part}
 use Rattle.typing.specs.Writing.{oneMore, plainEntries, partAt, putSteps, HeldSteps}
 use Rattle.typing.proofs.Trees.{lastNot, lastOr, lastTested, along-is, along*-is, passing-puts, while-puts, turned}
-use Rattle.records.specs.Limits.{entriesMost}
+use Rattle.terms.specs.Limits.{entriesMost}
 
 -- The forms of AXIS are 6 to 9,
 axis-form : (x : Axis) → (6 ≤ neighbourKind x) × (neighbourKind x ≤ 9)

@@ -6,8 +6,8 @@ use mathlib.Core.Path.{_≡_, sym, ap}
 use mathlib.Core.List.{List, [], _++_}
 use borrow.Author.Tests.{le-leb}
 use lib.ListN.{length, set, length-append}
-use Rattle.records.specs.Kinds.{rowOf}
-use Rattle.records.proofs.Rows.{row-measured}
+use Rattle.terms.specs.Kinds.{rowOf}
+use Rattle.terms.proofs.Rows.{row-measured}
 use Rattle.grammar.specs.Bytes.{twoBytes}
 use Rattle.grammar.specs.Rules.{bodyOf, recordOf, ruleBytes}
 use Rattle.text.specs.Rendered.{Put}
@@ -16,7 +16,7 @@ use Rattle.paths.specs.Translation.{entry}
 use Rattle.typing.specs.declared.put.Written.{Written}
 use Rattle.typing.specs.Writing.{oneMore, numbers, Asks, Puts}
 use Rattle.typing.proofs.Changes.{put-bytes, put-length}
-use Rattle.records.specs.Limits.{entriesMost}
+use Rattle.terms.specs.Limits.{entriesMost}
 
 -- ---- numbers
 

@@ -12,7 +12,7 @@ use Rattle.paths.specs.Syntax.{Test}
 use Rattle.paths.specs.Translation.{putT, tableOf}
 use Rattle.typing.specs.declared.put.Written.{Written}
 use Rattle.typing.specs.Writing.{Filled, Asks, Puts}
-use Rattle.records.specs.Limits.{entriesMost}
+use Rattle.terms.specs.Limits.{entriesMost}
 
 -- Nothing is written yet.
 abbrev pub nothing : Written

@@ -14,7 +14,7 @@ use Rattle.typing.proofs.Changes.{grows-put, lastIn, asks-as, puts-as, 
 use Rattle.typing.proofs.Steps.{tested-grows}
 use Rattle.typing.proofs.Trees.{lastNot, lastOr, or-grows, test-grows, path-grows, steps-grow, turned, turned-puts}
 use Rattle.typing.proofs.Below.{OfStep, Says, true-is, label-is, not-is, or-is, path-is, before-is, plain-is, tested-is, turned-held, none-before, steps-is, steps-row}
-use Rattle.records.specs.Limits.{entriesMost}
+use Rattle.terms.specs.Limits.{entriesMost}
 
 -- What the writer has still to do: less where more entries are written, and where as many are, less for a row below.
 abbrev pub todo : (w : Written) (n : ℕ) → ℕ

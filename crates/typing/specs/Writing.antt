@@ -7,7 +7,7 @@ use mathlib.Core.Bool.{cond}
 use mathlib.Core.List.{List, [], _∷_}
 use lib.Dec.{eqb, leb}
 use lib.ListN.{length, getD}
-use Rattle.records.specs.declared.rule.Entry.{Entry}
+use Rattle.rules.specs.declared.rule.Entry.{Entry}
 use Rattle.grammar.specs.Rules.{bodyOf, ruleBytes}
 use Rattle.text.specs.Rendered.{Put}
 use Rattle.paths.specs.Syntax.{Test, Step}
@@ -15,7 +15,7 @@ use Rattle.paths.specs.Translation.{entry, lastOf, put, putDown, putT, putS}
 use Rattle.parse.specs.Rows.{HeldT, HeldS}
 use Rattle.typing.specs.declared.part.Part.{Part}
 use Rattle.typing.specs.declared.put.Written.{Written}
-use Rattle.records.specs.Limits.{entriesMost}
+use Rattle.terms.specs.Limits.{entriesMost}
 
 -- ---- what is put
 

@@ -5,7 +5,7 @@ use crate::write::write_rule;
 use parse::tree::Outcome;
 use parse::tree::ROW_PLACES;
 use parse::tree::read_tree;
-use records::limits::ENTRIES_MOST;
+use terms::limits::ENTRIES_MOST;
 
 // What the call answers: the number, the place, and how many bytes it wrote.
 #[repr(C)]

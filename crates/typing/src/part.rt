@@ -2,7 +2,7 @@
 ghost use mathlib.Core.Path.{_≡_};
 ghost use Prim.Native.Nat.{_≤_};
 ghost use Rattle.typing.specs.Writing.{partAt};
-ghost use Rattle.records.specs.Limits.{entriesMost};
+ghost use Rattle.terms.specs.Limits.{entriesMost};
 use parse::tree::ROW_PLACES;
 
 // What a row holds: its form and its two numbers.

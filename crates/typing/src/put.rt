@@ -5,7 +5,7 @@ ghost use lib.ListN.{length};
 ghost use Rattle.grammar.specs.Bytes.{twoBytes};
 ghost use Rattle.text.specs.Rendered.{Put};
 ghost use Rattle.typing.specs.Writing.{oneMore, numbers, Asks, Puts};
-use records::kind::row_of;
+use terms::kind::row_of;
 
 // What stands in the buffer: how many entries, and how many bytes they take.
 pub(crate) struct Written {

@@ -9,7 +9,7 @@ ghost use Rattle.paths.specs.Syntax.{Test};
 ghost use Rattle.paths.specs.Translation.{tableOf};
 ghost use Rattle.parse.specs.Rows.{HeldT};
 ghost use Rattle.typing.specs.Writing.{TestAsks, TestPuts, StepAsks, StepPuts, StepsAsk, StepsPut};
-ghost use Rattle.records.specs.Limits.{entriesMost};
+ghost use Rattle.terms.specs.Limits.{entriesMost};
 use crate::part::part_at;
 use crate::put::Written;
 use crate::put::last;

@@ -1,5 +1,5 @@
 -- `is_refused` answers the test of the specification. Assumes nothing.
-use Rattle.tally.specs.Tally.{refused}
+use Rattle.tally.specs.Tally.{tallyRefused}
 use mathlib.Core.Path.{refl}
 use borrow.Author.Needs.{needs}
 use Rattle.tally.proofs.is_refused.Statement.{statement}
@@ -18,7 +18,7 @@ add-result : tie.Need-add-result
 add-result c = search needs
 
 returns : tie.Need-returns
-unfolding refused
+unfolding tallyRefused
 returns c = refl
 
 pub is-refused-spec : {M : Type 1} → statement M

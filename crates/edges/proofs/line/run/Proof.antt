@@ -12,8 +12,8 @@ Inv-loop text bytes₀ line₀ i₀ bytes line i = (i ≤ length text) × Sound 
 abbrev μ-loop : tie.MeasureT-loop
 μ-loop text bytes₀ line₀ i₀ bytes line i = length text - i
 
-fresh-requires : tie.Need-fresh-requires Inv-loop μ-loop
-fresh-requires c κs = search needs
+empty-line-requires : tie.Need-empty-line-requires Inv-loop μ-loop
+empty-line-requires c κs = search needs
 
 loop-holds : tie.Need-loop-holds Inv-loop μ-loop
 loop-holds c = search needs
@@ -45,7 +45,7 @@ run-spec =
     (tie.spec
     Inv-loop
     μ-loop
-    fresh-requires
+    empty-line-requires
     loop-holds
     shared-slice-read-with
     with-requires

@@ -27,8 +27,8 @@ add-end c =
     let h : w .result .times ≤ 4294967295 = omega arith in
     omega (arith, mul-le-mul-right (w .result .size - w .result .start) h)
 
-fresh-requires : tie.Need-fresh-requires
-fresh-requires c κs = search needs
+empty-line-requires : tie.Need-empty-line-requires
+empty-line-requires c κs = search needs
 
 returns : tie.Need-returns
 returns c = search needs
@@ -51,7 +51,7 @@ with-record-spec =
     cast-end
     mul-end
     add-end
-    fresh-requires
+    empty-line-requires
     returns
     repeat-requires
     begun-requires

@@ -2,7 +2,7 @@
 use Prim.Native.Nat.{ℕ}
 use native.Mathlib.Omega.{arith}
 use lib.ListN.{length-replicate}
-use Rattle.records.specs.Limits.{elementsMost}
+use Rattle.terms.specs.Limits.{elementsMost}
 use Rattle.layout.proofs.LayoutLaws.{room-for-any}
 use Rattle.marking.proofs.AnswerLaws.{marked-evaluated}
 use borrow.Author.Needs.{needs}

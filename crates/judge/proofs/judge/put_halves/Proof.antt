@@ -3,7 +3,7 @@ use Prim.Native.Nat.{ℕ}
 use mathlib.Core.Bool.{true, false}
 use lib.ListN.{length-replicate}
 use borrow.Author.Tests.{eq-eqb, ne-eqb}
-use Rattle.records.specs.Limits.{elementsMost}
+use Rattle.terms.specs.Limits.{elementsMost}
 use Rattle.judge.proofs.RecordLaws.{marked-told, accepted-with, accepted-rendered, judged-rendered}
 use borrow.Author.Needs.{needs}
 use Rattle.judge.proofs.judge.put_halves.Statement.{statement}

@@ -1,6 +1,6 @@
 -- `rule_end` reads the two bytes of the length. Assumes nothing.
 use borrow.Author.Needs.{needs}
-use Rattle.records.specs.Bytes.{numberAt}
+use Rattle.numbers.specs.Bytes.{numberAt}
 use Rattle.judge.specs.Input.{ruleEnd}
 use Rattle.judge.proofs.split.rule_end.Statement.{statement}
 use Rattle.judge.proofs.split.rule_end.Tie as tie

@@ -1,8 +1,8 @@
 -- `mark_entry`: each shape has its pass, and the pass leaves what the shape means. Assumes nothing.
 use mathlib.Core.Path.{refl}
 use mathlib.Core.List.{[]}
-use Rattle.records.specs.declared.kind.Axis.the-variants.{Child}
-use Rattle.records.specs.Kinds.{numbersOf}
+use Rattle.terms.specs.declared.kind.Axis.the-variants.{Child}
+use Rattle.terms.specs.Kinds.{numbersOf}
 use Rattle.marking.specs.Steps.{columnOf}
 use Rattle.marking.proofs.KindLaws.{column-room, passed-some, passed-until, passed-every, passed-local, passed-nothing, ups-nearest}
 use borrow.Author.Needs.{needs}

@@ -1,7 +1,7 @@
 -- `local_pass`: each question has its gate, and that of a label its own pass. Assumes nothing.
 use native.Mathlib.Omega.{arith}
 use mathlib.Core.Path.{refl}
-use Rattle.records.specs.Kinds.{localNumbers}
+use Rattle.terms.specs.Kinds.{localNumbers}
 use Rattle.meaning.specs.Marks.{meansHere}
 use Rattle.marking.specs.Steps.{gateMark}
 use Rattle.marking.proofs.KindLaws.{gate-always, gate-not, gate-or, gate-and}

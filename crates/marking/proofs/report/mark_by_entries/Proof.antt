@@ -1,13 +1,13 @@
 -- `mark_by_entries`: the report's refusal first, then 9 where there is no room, then the marking's words. Assumes nothing.
 use native.Mathlib.Omega.{arith}
 use mathlib.Core.Path.{sym, ap, refl, _∙_}
-use Rattle.records.specs.Answer.{placeOf}
-use Rattle.records.proofs.Bounds.{report-small}
+use Rattle.terms.specs.Answer.{placeOf}
 use Rattle.layout.specs.Layout.{roomIn}
 use Rattle.marking.proofs.AnswerLaws.{room-for-is, room-for-within, by-refused, by-short, by-room, held, marked-few}
 use borrow.Author.Needs.{needs}
 use Rattle.marking.proofs.report.mark_by_entries.Statement.{statement}
 use Rattle.marking.proofs.report.mark_by_entries.Tie as tie
+use Rattle.reports.proofs.ElementLaws.{report-small}
 
 lay-out-requires : tie.Need-lay-out-requires
 lay-out-requires c κs = search needs

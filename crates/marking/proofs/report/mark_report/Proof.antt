@@ -2,8 +2,8 @@
 use Prim.Native.Nat.{ℕ}
 use mathlib.Core.Path.{ap, sym, _∙_}
 use lib.ListN.{length-replicate}
-use Rattle.records.specs.Answer.{placeOf}
-use Rattle.records.specs.Limits.{entriesMost}
+use Rattle.terms.specs.Answer.{placeOf}
+use Rattle.terms.specs.Limits.{entriesMost}
 use Rattle.layout.proofs.LayoutLaws.{filled-length}
 use Rattle.marking.proofs.AnswerLaws.{rule-place, entries-read, marked-refused, marked-accepted}
 use borrow.Author.Needs.{needs}

@@ -1,8 +1,8 @@
 -- `put_bit`: a test is a number below 2. Assumes nothing.
-use Rattle.meaning.proofs.Words.{bit-small}
 use borrow.Author.Needs.{needs}
 use Rattle.marking.proofs.word.put_bit.Statement.{statement}
 use Rattle.marking.proofs.word.put_bit.Tie as tie
+use Rattle.numbers.proofs.BitLaws.{bit-small}
 
 cast-put-number : tie.Need-cast-put-number
 cast-put-number c = search needs

@@ -1,7 +1,6 @@
--- `pz_close` walks the rule once, and goes on where it is accepted. Assumes nothing.
 use native.Mathlib.Omega.{arith}
 use mathlib.Core.Path.{sym, _∙_}
-use Rattle.onepass.proofs.CodeLaws.{asked-ahead, refused-place, accepted-call, refused-call}
+use Rattle.onepass.proofs.CallLaws.{closed-call, refused-call, refused-place}
 use borrow.Author.Needs.{needs}
 use Rattle.onepass.proofs.export.pz_close.Statement.{statement}
 use Rattle.onepass.proofs.export.pz_close.Tie as tie
@@ -26,9 +25,7 @@ same-length c = search needs
 
 returns : tie.Need-returns
 returns c =
-    let w = c .before .before .before .before .before .before .before .ask-rule .ensures in
-    let a = c .before .before .before .before .before .answer .given .1 in
-    let r = accepted-call _ _ _ _ _ _ (sym (w .answer-is) ∙ a) (c .before .before .close-step .ensures _ (asked-ahead _ _ _ w a)) in
+    let r = closed-call _ _ _ _ _ _ (c .before .before .before .before .before .before .before .ask-rule .ensures) (c .before .before .before .before .before .answer .given .1) (c .before .before .close-step .ensures) in
     record { answer = r .0; state-is = r .1 }
 
 returns-2 : tie.Need-returns-2

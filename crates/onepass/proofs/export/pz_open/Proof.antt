@@ -1,7 +1,6 @@
--- `pz_open` walks the rule once, and goes on where it is accepted. Assumes nothing.
 use native.Mathlib.Omega.{arith}
 use mathlib.Core.Path.{sym, _∙_}
-use Rattle.onepass.proofs.CodeLaws.{accepted-range, accepted-count, walked-ahead, walked-word, refused-place, accepted-call, refused-call}
+use Rattle.onepass.proofs.CallLaws.{opened-call, refused-call, accepted-some, refused-place}
 use borrow.Author.Needs.{needs}
 use Rattle.onepass.proofs.export.pz_open.Statement.{statement}
 use Rattle.onepass.proofs.export.pz_open.Tie as tie
@@ -16,7 +15,7 @@ enum-known-answer : tie.Need-enum-known-answer
 enum-known-answer c = search needs
 
 open-step-requires : tie.Need-open-step-requires
-open-step-requires c κs = accepted-range _ _ _ (c .before .before .before .before .walk-rule .ensures .answer-is) (c .before .before .answer .given .1)
+open-step-requires c κs = accepted-some _ _ _ (c .before .before .before .before .walk-rule .ensures .answer-is) (c .before .before .answer .given .1)
 
 enum-known-answer-2 : tie.Need-enum-known-answer-2
 enum-known-answer-2 c = search needs
@@ -29,11 +28,7 @@ same-length c = search needs
 
 returns : tie.Need-returns
 returns c =
-    let w = c .before .before .before .before .before .before .before .walk-rule .ensures in
-    let a = c .before .before .before .before .before .answer .given .1 in
-    let r = accepted-call _ _ _ _ _ _ (sym (w .answer-is) ∙ a)
-    (c .before .before .open-step .ensures .step-is _ (walked-ahead _ _ _ _ _ _ w a) (accepted-count _ _ _ (w .answer-is) a)
-    (λ z. walked-word _ _ _ _ _ _ _ w a (c .before .before .before .before .before .before .before .before .words-of .ensures) z)) in
+    let r = opened-call _ _ _ _ _ _ _ _ (c .before .before .before .before .before .before .before .before .words-of .ensures) (c .before .before .before .before .before .before .before .walk-rule .ensures) (c .before .before .before .before .before .answer .given .1) (c .before .before .open-step .ensures) in
     record { answer = r .0; state-is = r .1 }
 
 same-length-2 : tie.Need-same-length-2

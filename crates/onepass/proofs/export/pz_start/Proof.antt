@@ -1,20 +1,17 @@
--- `pz_start` writes zeros into a state of the right length. Assumes nothing.
-use Rattle.onepass.proofs.CodeLaws.{start-refused, start-done}
 use borrow.Author.Needs.{needs}
 use Rattle.onepass.proofs.export.pz_start.Statement.{statement}
 use Rattle.onepass.proofs.export.pz_start.Tie as tie
 
-returns : tie.Need-returns
-returns c = start-refused _ (c .if1 .taken)
-
-clear-requires : tie.Need-clear-requires
-clear-requires c κs = search needs
+start-state-requires : tie.Need-start-state-requires
+start-state-requires c κs = search needs
 
 same-length : tie.Need-same-length
 same-length c = search needs
 
-returns-2 : tie.Need-returns-2
-returns-2 c = start-done _ _ (c .before .before .before .before .if1 .left) (c .before .before .clear .ensures)
+returns : tie.Need-returns
+returns c =
+    let s = c .before .before .start-state .ensures in
+    record { answer = rw (s .number-is); state-is = s .state-is }
 
 pub pz-start-spec : {M : Type 1} → statement M
-pz-start-spec = tie.close (tie.spec returns clear-requires same-length returns-2)
+pz-start-spec = tie.close (tie.spec start-state-requires same-length returns)

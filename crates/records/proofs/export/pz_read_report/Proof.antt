@@ -2,11 +2,11 @@
 use native.Mathlib.Omega.{arith}
 use mathlib.Core.Path.{ap, sym, _∙_}
 use borrow.Author.Needs.{needs}
-use Rattle.records.specs.Answer.{placeOf, countOf}
+use Rattle.terms.specs.Answer.{placeOf, countOf}
 use Rattle.records.specs.Reply.{reportReply}
-use Rattle.records.proofs.Bounds.{report-small}
 use Rattle.records.proofs.export.pz_read_report.Statement.{statement}
 use Rattle.records.proofs.export.pz_read_report.Tie as tie
+use Rattle.reports.proofs.ElementLaws.{report-small}
 
 read-report-requires : tie.Need-read-report-requires
 read-report-requires c κs = search needs

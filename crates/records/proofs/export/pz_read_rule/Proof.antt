@@ -2,11 +2,11 @@
 use native.Mathlib.Omega.{arith}
 use mathlib.Core.Path.{ap, sym, _∙_}
 use borrow.Author.Needs.{needs}
-use Rattle.records.specs.Answer.{placeOf, countOf}
+use Rattle.terms.specs.Answer.{placeOf, countOf}
 use Rattle.records.specs.Reply.{ruleReply}
-use Rattle.records.proofs.Bounds.{rule-small}
 use Rattle.records.proofs.export.pz_read_rule.Statement.{statement}
 use Rattle.records.proofs.export.pz_read_rule.Tie as tie
+use Rattle.rules.proofs.EntryLaws.{rule-small}
 
 read-rule-requires : tie.Need-read-rule-requires
 read-rule-requires c κs = search needs

@@ -1,0 +1,23 @@
+-- Bits of a word, and the word of some bits. Document 01, "Numbers given back": a mark word has 64 bits, bit i for entry i.
+-- Laws: proofs/BitLaws.antt. Assumes nothing.
+use Prim.Native.Nat.{ℕ, zero, suc, _+_, _*_, _^_, _%_, _/_}
+use mathlib.Core.Bool.{Bool, true, false}
+use lib.Dec.{eqb}
+
+-- A mark word has so many bits, one for each entry that a rule may have.
+abbrev pub wordBits : ℕ
+wordBits = 64
+
+-- A number's bit.
+abbrev pub bit : Bool → ℕ
+bit true = 1
+bit false = 0
+
+-- The word of m marks: bit i is mark i, and the bits from m on are 0.
+unfoldable pub word : ℕ → (ℕ → Bool) → ℕ
+word zero f = 0
+word (suc m) f = bit (f m) * 2 ^ m + word m f
+
+-- Bit a of a word.
+abbrev pub bitAt : ℕ → ℕ → Bool
+bitAt w a = eqb (w / 2 ^ a % 2) 1

@@ -1,0 +1,29 @@
+-- Every promise of a public function of this crate determines the answer, and every place that is lent to it: any two results that meet
+-- it are equal. Assumes nothing.
+use Rattle.numbers.proofs.Only.{only}
+use Prim.Native.Nat.{ℕ}
+use mathlib.Core.Path.{_≡_}
+use mathlib.Core.List.{List}
+use Rattle.rules.specs.Rule.{ruleAnswer, takenAt}
+use Rattle.terms.specs.declared.answer.Answer.{Answer}
+use Rattle.rules.specs.declared.rule.Taken.{Taken}
+use Rattle.rules.specs.Entries.{EntriesTaken}
+
+-- What the rule reader answers.
+pub read-rule-only : (s : List ℕ) {r r′ : Answer} → r ≡ ruleAnswer s → r′ ≡ ruleAnswer s → r ≡ r′
+read-rule-only s p q = only p q
+
+-- What the record at an offset is taken for.
+pub take-entry-only : (s : List ℕ) (own at : ℕ) {r r′ : Taken} → r ≡ takenAt s own at → r′ ≡ takenAt s own at → r ≡ r′
+take-entry-only s own at p q = only p q
+
+-- What reading the entries answers and leaves in the tables.
+pub read-entries-only : (s kinds firsts seconds : List ℕ) {r r′ : Answer} {k k′ a a′ b b′ : List ℕ}
+    → EntriesTaken s kinds firsts seconds r k a b → EntriesTaken s kinds firsts seconds r′ k′ a′ b′
+    → (r ≡ r′) × (k ≡ k′) × (a ≡ a′) × (b ≡ b′)
+read-entries-only s kinds firsts seconds p q = (
+  only (p .answer) (q .answer),
+  only (p .kinds-are) (q .kinds-are),
+  only (p .firsts-are) (q .firsts-are),
+  only (p .seconds-are) (q .seconds-are),
+)

@@ -1,0 +1,43 @@
+-- What an accepted rule holds, as the list of entries that the layers above work on. Document 01, "Records".
+-- Laws: proofs/EntryLaws.antt, and the crate grammar. Assumes nothing.
+use Prim.Native.Nat.{ℕ}
+use mathlib.Core.Path.{_≡_}
+use mathlib.Core.Bool.{cond}
+use mathlib.Core.List.{List, [], map}
+use Rattle.terms.specs.Answer.{countOf}
+use Rattle.numbers.specs.First.{first}
+use Rattle.terms.specs.Frame.{startOf}
+use Rattle.rules.specs.Rule.{entryAt, ruleStops, ruleAnswer}
+use Rattle.terms.specs.declared.answer.Answer.{Answer}
+use Rattle.rules.specs.declared.rule.Entry.{Entry}
+use Rattle.terms.specs.Limits.{ruleMost, entriesMost, missized}
+use Rattle.numbers.specs.Lists.{listed, over}
+
+-- The entries of the first n records.
+abbrev pub entriesBefore : List ℕ → ℕ → List Entry
+entriesBefore s n = listed n (λ i. entryAt s (startOf s i))
+
+-- The entries of an accepted rule; none of a refused one.
+unfoldable pub entriesOf : List ℕ → List Entry
+entriesOf s = entriesBefore s (countOf (ruleAnswer s))
+
+-- The entries up to where reading stops; a rule of no byte or of too many is not read.
+unfoldable pub entriesRead : List ℕ → List Entry
+entriesRead s = cond (missized ruleMost s) [] (entriesBefore s (first (ruleStops s) entriesMost))
+
+-- The columns of the entries' table.
+abbrev pub kindOf : Entry → ℕ
+kindOf e = e .kind
+
+abbrev pub aOf : Entry → ℕ
+aOf e = e .a
+
+abbrev pub bOf : Entry → ℕ
+bOf e = e .b
+
+-- What reading the entries answers and leaves in the lent tables: one walk, so that a refused rule leaves the entries before its fault.
+pub record EntriesTaken (s kinds firsts seconds : List ℕ) (r : Answer) (kinds′ firsts′ seconds′ : List ℕ) : Type 0 where
+  pub answer : r ≡ ruleAnswer s
+  pub kinds-are : kinds′ ≡ over (map kindOf (entriesRead s)) kinds
+  pub firsts-are : firsts′ ≡ over (map aOf (entriesRead s)) firsts
+  pub seconds-are : seconds′ ≡ over (map bOf (entriesRead s)) seconds

@@ -1,0 +1,4 @@
+// Rules: one record as an entry, and the walk that checks a whole rule and fills the table of its entries.
+mod frame;
+pub mod rule;
+pub mod table;

@@ -1,0 +1,74 @@
+// Numbers of two, four and eight bytes in a byte string, the low byte first.
+ghost use mathlib.Core.Path.{_≡_};
+ghost use Prim.Native.Nat.{_+_, _≤_, _<_};
+ghost use lib.ListN.{length};
+ghost use Rattle.state.specs.Bytes.{wordAt, putAt};
+
+fn byte(x: u8) -> u64
+    ensures { λ r. ⌜ (r ≡ x) × (r < 256) ⌝ }
+{
+    x as u64
+}
+
+fn two_at(s: &[u8], at: usize) -> u64
+    requires { ⌜ at + 2 ≤ length (now s) ⌝ }
+    ensures { λ r. ⌜ (r ≡ wordAt 2 (now (s .entry)) at) × (r < 65536) ⌝ }
+{
+    byte(s[at]) + 256 * byte(s[at + 1])
+}
+
+fn four_at(s: &[u8], at: usize) -> u64
+    requires { ⌜ at + 4 ≤ length (now s) ⌝ }
+    ensures { λ r. ⌜ (r ≡ wordAt 4 (now (s .entry)) at) × (r < 4294967296) ⌝ }
+{
+    two_at(s, at) + 65536 * two_at(s, at + 2)
+}
+
+// The word of eight bytes at an offset.
+pub(crate) fn word_at(s: &[u8], at: usize) -> u64
+    requires { ⌜ at + 8 ≤ length (now s) ⌝ }
+    ensures { λ r. ⌜ r ≡ wordAt 8 (now (s .entry)) at ⌝ }
+{
+    four_at(s, at) + 4294967296 * four_at(s, at + 4)
+}
+
+// The number of two bytes at an offset.
+pub(crate) fn number_at(s: &[u8], at: usize) -> usize
+    requires { ⌜ at + 2 ≤ length (now s) ⌝ }
+    ensures { λ r. ⌜ (r ≡ wordAt 2 (now (s .entry)) at) × (r < 65536) ⌝ }
+{
+    two_at(s, at) as usize
+}
+
+fn put_two(s: &mut [u8], at: usize, v: u64)
+    requires { ⌜ at + 2 ≤ length (now s) ⌝ }
+    ensures { λ _. ⌜ now (s .exit) ≡ putAt 2 at v (now (s .entry)) ⌝ }
+{
+    s[at] = (v % 256) as u8;
+    s[at + 1] = (v / 256 % 256) as u8;
+}
+
+fn put_four(s: &mut [u8], at: usize, v: u64)
+    requires { ⌜ at + 4 ≤ length (now s) ⌝ }
+    ensures { λ _. ⌜ now (s .exit) ≡ putAt 4 at v (now (s .entry)) ⌝ }
+{
+    put_two(s, at, v);
+    put_two(s, at + 2, v / 65536);
+}
+
+// Stores a word in eight bytes at an offset.
+pub(crate) fn put_word(s: &mut [u8], at: usize, v: u64)
+    requires { ⌜ at + 8 ≤ length (now s) ⌝ }
+    ensures { λ _. ⌜ now (s .exit) ≡ putAt 8 at v (now (s .entry)) ⌝ }
+{
+    put_four(s, at, v);
+    put_four(s, at + 4, v / 4294967296);
+}
+
+// Stores a number in two bytes at an offset.
+pub(crate) fn put_number(s: &mut [u8], at: usize, v: usize)
+    requires { ⌜ at + 2 ≤ length (now s) ⌝ }
+    ensures { λ _. ⌜ now (s .exit) ≡ putAt 2 at v (now (s .entry)) ⌝ }
+{
+    put_two(s, at, v as u64);
+}

@@ -1,0 +1,3 @@
+-- The laws of a walk. Read in this order.
+pub mod WalkLaws
+pub mod Only

@@ -1,0 +1,2 @@
+-- What one walk of a rule gives.
+pub mod Walk
