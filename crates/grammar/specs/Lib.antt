@@ -2,6 +2,6 @@
 pub mod Bytes
 pub mod When
 pub mod Rules
-pub mod Columns
+pub mod Table
 pub mod Reports
 pub mod Legal

@@ -7,8 +7,8 @@ ghost use Rattle.layout.specs.Links.{parents, previousSiblings};
 ghost use Rattle.layout.specs.Layout.{LaidOut};
 use crate::columns::least_of_four;
 use crate::links::link;
-use terms::answer::Answer;
 use reports::elements::read_elements;
+use terms::answer::Answer;
 ghost use Rattle.numbers.specs.Lists.{over};
 
 // Links the first n elements.

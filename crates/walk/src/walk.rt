@@ -4,11 +4,11 @@ ghost use mathlib.Core.Path.{_≡_};
 ghost use Rattle.walk.specs.Walk.{unreadWalk, Walked, unaskedAhead, Asked};
 use crate::step::step_bit;
 use crate::word::add_bit;
+use rules::rule::take_entry;
 use terms::answer::Answer;
 use terms::kind::looks_back;
 use terms::kind::row_of;
 use terms::limits::RULE_MOST;
-use rules::rule::take_entry;
 
 // What a walk gives: the rule's answer; of the entries read, whether one looks ahead, and the word.
 pub struct Walk {
