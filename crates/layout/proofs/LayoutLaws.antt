@@ -1,17 +1,14 @@
 -- What the columns of a report laid out hold: the numbers in them, and where they lead. Assumes nothing.
-use Prim.Native.Nat.{ℕ, zero, suc, _*_, _≤_, _<_}
-use native.Mathlib.Decide.{decLt}
-use native.Mathlib.Nat.{eq-or-lt-of-le, le-of-suc-le-suc}
+use Prim.Native.Nat.{ℕ, _*_, _≤_, _<_}
 use native.Mathlib.Omega.{arith}
 use borrow.Author.Tests.{lt-ltb, le-ltb, ltb-true, ltb-false}
 use mathlib.Core.Path.{_≡_, refl, sym, ap, subst, _∙_}
 use mathlib.Core.Bool.{Bool, true, false, cond}
-use mathlib.Core.List.{List, [], _∷_, _++_}
-use mathlib.Core.Logic.{⊎-elim}
+use mathlib.Core.List.{List, [], _++_}
 use mathlib.Core.Option.{Option, none, some}
 use lib.Dec.{ltb}
-use lib.ListN.{length, getD, take, drop, length-append, List·getD-append}
-use lib.Seq.{take-append-seam, getD-at, ext-getD, length-take-le}
+use lib.ListN.{length, getD, take, drop}
+use lib.Seq.{take-append-seam, ext-getD, length-take-le}
 use Rattle.terms.specs.Answer.{countOf}
 use Rattle.reports.specs.Report.{reportAnswer}
 use Rattle.terms.specs.Limits.{elementsMost}
@@ -26,26 +23,21 @@ use Rattle.layout.specs.Links.{numberFor, numbersBelow, parents, previou
 use Rattle.layout.specs.Layout.{leastOf, roomIn, withRoom, LaidOut}
 use Rattle.layout.proofs.LinkLaws.{leads-at}
 use Rattle.reports.specs.Elements.{ElementsTaken, labelsOf, levelsOf}
-use Rattle.numbers.specs.Lists.{over}
-use Rattle.numbers.proofs.Lists.{over-kept, over-length, over-is}
+use Rattle.numbers.specs.Lists.{listed, over}
+use Rattle.numbers.proofs.Lists.{listed-length, listed-at, over-kept, over-length, over-is}
 use Rattle.terms.proofs.AnswerLaws.{accepts-of}
 use Rattle.reports.proofs.ElementLaws.{taken-lists}
 
 -- ---- the numbers of elements
 
 module _ (F : ℕ → Option ℕ) where
-  pub numbers-length : (n : ℕ) → length (numbersBelow F n) ≡ n
+  numbers-length : (n : ℕ) → length (numbersBelow F n) ≡ n
   unfolding numbersBelow
-  numbers-length zero = refl
-  numbers-length (suc n) = length-append (numbersBelow F n) _ ∙ omega (arith, numbers-length n)
+  numbers-length n = listed-length n _
 
-  pub numbers-at : (n s d : ℕ) → s < n → getD (numbersBelow F n) s d ≡ numberFor s (F s)
+  numbers-at : (n s d : ℕ) → s < n → getD (numbersBelow F n) s d ≡ numberFor s (F s)
   unfolding numbersBelow
-  numbers-at zero s d l = absurd (omega arith)
-  numbers-at (suc n) s d l =
-      ⊎-elim (λ e. rw e (getD-at (numbersBelow F n) (numberFor n (F n)) [] d n (numbers-length n)))
-      (λ m. List·getD-append (numbersBelow F n) _ d s (omega (arith, numbers-length n)) ∙ numbers-at n s d m)
-      (eq-or-lt-of-le (le-of-suc-le-suc l))
+  numbers-at n s d l = listed-at n _ s d l
 
   -- A number leads where it stands for, F leading to lower numbers.
   number-leads-to : Down F → (s : ℕ) (o : Option ℕ) → F s ≡ o → (leadsTo s (numberFor s o) ≡ o) × (numberFor s o ≤ s)
@@ -193,11 +185,11 @@ module _ {report labels levels : List ℕ} {r : Answer} {n : ℕ} {ls ds : List 
 
 -- No element has no number.
 no-parents : (levels : List ℕ) → levels ≡ [] → parents levels ≡ []
-unfolding parents numbersBelow
+unfolding parents numbersBelow listed
 no-parents levels e = rw e
 
 no-siblings : (levels : List ℕ) → levels ≡ [] → previousSiblings levels ≡ []
-unfolding previousSiblings numbersBelow
+unfolding previousSiblings numbersBelow listed
 no-siblings levels e = rw e
 
 no-numbers : (room : ℕ) (report xs : List ℕ) → xs ≡ [] → withRoom room report xs ≡ []

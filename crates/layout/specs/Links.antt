@@ -4,10 +4,11 @@
 use Prim.Native.Nat.{ℕ, zero, suc, _≤_, _<_}
 use mathlib.Core.Path.{_≡_}
 use mathlib.Core.Bool.{cond}
-use mathlib.Core.List.{List, [], _∷_, _++_}
+use mathlib.Core.List.{List}
 use mathlib.Core.Option.{Option, none, some}
 use lib.Dec.{ltb}
 use lib.ListN.{length, getD}
+use Rattle.numbers.specs.Lists.{listed}
 use Rattle.meaning.specs.Links.{parent, previous}
 
 -- The number that stands at element s for where it leads: its own number for nowhere.
@@ -17,8 +18,7 @@ numberFor s (some t) = t
 
 -- The numbers of the first n elements, where F leads from each.
 unfoldable pub numbersBelow : (F : ℕ → Option ℕ) → ℕ → List ℕ
-numbersBelow F zero = []
-numbersBelow F (suc n) = numbersBelow F n ++ (numberFor n (F n) ∷ [])
+numbersBelow F n = listed n (λ s. numberFor s (F s))
 
 -- The parents of the elements with these levels, and their previous siblings.
 unfoldable pub parents : List ℕ → List ℕ

@@ -1,12 +1,12 @@
 -- Laws behind the marking's answer: the order of refusals, one law for each way through, and what the filled tables are.
 -- Assumes nothing.
-use Prim.Native.Nat.{ℕ, pred, _≤_, _<_}
+use Prim.Native.Nat.{ℕ, pred, _*_, _≤_, _<_}
 use native.Mathlib.Decide.{decLt}
 use native.Mathlib.Omega.{arith}
 use borrow.Author.Tests.{lt-ltb, le-ltb, ltb-false}
 use mathlib.Core.Path.{_≡_, refl, sym, ap, subst, _∙_}
 use mathlib.Core.Bool.{Bool, true, false, cond}
-use mathlib.Core.List.{List, [], _∷_, map}
+use mathlib.Core.List.{List, [], _∷_}
 use lib.Dec.{ltb}
 use lib.ListN.{length, take}
 use lib.Seq.{length-take-le}
@@ -17,9 +17,9 @@ use Rattle.terms.specs.declared.answer.Answer.{Answer}
 use Rattle.terms.specs.declared.answer.Answer.the-variants.{Accepted, Refused}
 use Rattle.rules.specs.declared.rule.Entry.{Entry}
 use Rattle.terms.specs.Limits.{elementsMost, entriesMost, reportMost}
-use Rattle.grammar.specs.Columns.{tableOf}
+use Rattle.grammar.specs.Table.{tableOf}
 use Rattle.grammar.specs.Rules.{RuleEntries}
-use Rattle.grammar.proofs.Columns.{table-of-columns}
+use Rattle.grammar.proofs.Table.{table-of-flat}
 use Rattle.grammar.proofs.WhenRule.{rule-answer-sound}
 use Rattle.grammar.proofs.WhenReport.{report-answer-sound}
 use Rattle.terms.proofs.AnswerLaws.{Sound, order-sound}
@@ -27,12 +27,12 @@ use Rattle.grammar.proofs.Entries.{entries-count, entries-few, rule-entries}
 use Rattle.meaning.specs.Marks.{words, selected}
 use Rattle.meaning.proofs.Words.{words-length}
 use Rattle.layout.specs.Layout.{leastOf, roomIn, LaidOut}
-use Rattle.layout.proofs.LayoutLaws.{filled-length, least-within, within-least, laid-room, ElementsLaid, elements-laid}
+use Rattle.layout.proofs.LayoutLaws.{least-within, within-least, laid-room, ElementsLaid, elements-laid}
 use Rattle.marking.specs.Evaluation.{withRoom, evaluationOf, meantWords, outcome, evaluation, wordsWritten, Evaluated, roomFor, ColumnsAfter, ReportMarked, MarkedBy}
 use Rattle.marking.specs.Pass.{Marked}
 use Rattle.marking.specs.declared.report.Evaluation.{Evaluation}
 use Rattle.marking.specs.declared.report.Marking.{Marking}
-use Rattle.rules.specs.Entries.{EntriesTaken, entriesOf, kindOf, aOf, bOf}
+use Rattle.rules.specs.Entries.{EntriesTaken, entriesOf, flat}
 use Rattle.reports.specs.Elements.{labelsOf, levelsOf}
 use Rattle.numbers.specs.Lists.{over}
 use Rattle.rules.proofs.EntryLaws.{rule-small, entries-taken-all}
@@ -229,38 +229,20 @@ both-taken rule report room z = go (ruleAnswer rule) (reportAnswer report) (ltb 
 
 -- ---- what the filled tables are
 
--- The columns of an accepted rule: its n entries.
-pub record EntriesRead (rule : List ℕ) (n : ℕ) (ks fs ss : List ℕ) : Type 0 where
+-- The table of an accepted rule: its n entries.
+pub record EntriesRead (rule : List ℕ) (n : ℕ) (table : List ℕ) : Type 0 where
   pub is : Accepted n ≡ ruleAnswer rule
-  pub kinds-room : n ≤ length ks
-  pub firsts-room : n ≤ length fs
-  pub seconds-room : n ≤ length ss
-  pub table-read : tableOf n ks fs ss ≡ entriesOf rule
-  pub table-rule : RuleEntries (tableOf n ks fs ss)
+  pub table-read : tableOf n table ≡ entriesOf rule
+  pub table-rule : RuleEntries (tableOf n table)
 
-pub entries-read : (rule kinds firsts seconds : List ℕ) {r : Answer} {n : ℕ} {ks fs ss : List ℕ}
-    → length kinds ≡ entriesMost → length firsts ≡ entriesMost → length seconds ≡ entriesMost
-    → EntriesTaken rule kinds firsts seconds r ks fs ss → r ≡ Accepted n → EntriesRead rule n ks fs ss
-entries-read rule kinds firsts seconds {r} {n} {ks} {fs} {ss} a b c f e =
+pub entries-read : (rule table : List ℕ) {r : Answer} {n : ℕ} {last : List ℕ} → length table ≡ 3 * entriesMost → EntriesTaken rule table r last
+    → r ≡ Accepted n → EntriesRead rule n last
+entries-read rule table {r} {n} {last} room f e =
     let is : Accepted n ≡ ruleAnswer rule = sym e ∙ f .answer in
-    let all = entries-taken-all rule n is in
-    let kinds-are : ks ≡ over (map kindOf (entriesOf rule)) kinds = rw all at (f .kinds-are) in
-    let firsts-are : fs ≡ over (map aOf (entriesOf rule)) firsts = rw all at (f .firsts-are) in
-    let seconds-are : ss ≡ over (map bOf (entriesOf rule)) seconds = rw all at (f .seconds-are) in
-    let le : length (entriesOf rule) ≡ n = entries-count rule ∙ ap countOf (sym is) in
-    let few : n ≤ entriesMost = omega (arith, entries-few rule) in
-    let whole : RuleEntries (entriesOf rule) = rule-entries rule n (sym is) in
-    let table : tableOf n ks fs ss ≡ entriesOf rule =
-    rw (kinds-are, firsts-are, seconds-are, ← le)
-    (table-of-columns (entriesOf rule) kinds firsts seconds (omega arith) (omega arith) (omega arith)) in
-    record {
-      is = is;
-      kinds-room = omega (arith, filled-length (map kindOf (entriesOf rule)) kinds entriesMost kinds-are a);
-      firsts-room = omega (arith, filled-length (map aOf (entriesOf rule)) firsts entriesMost firsts-are b);
-      seconds-room = omega (arith, filled-length (map bOf (entriesOf rule)) seconds entriesMost seconds-are c);
-      table-read = table;
-      table-rule = subst RuleEntries (sym table) whole;
-    }
+    let held : last ≡ over (flat (entriesOf rule)) table = rw (entries-taken-all rule n is) at (f .table-is) in
+    let count : length (entriesOf rule) ≡ n = entries-count rule ∙ ap countOf (sym is) in
+    let read : tableOf n last ≡ entriesOf rule = rw (held, ← count) (table-of-flat (entriesOf rule) table (omega (arith, entries-few rule, entries-count rule))) in
+    record { is = is; table-read = read; table-rule = subst RuleEntries (sym read) (rule-entries rule n (sym is)) }
 
 -- The place of a rule's refusal fits where a report's does.
 pub rule-place : (rule : List ℕ) → placeOf (ruleAnswer rule) ≤ reportMost

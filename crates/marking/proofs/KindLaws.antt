@@ -1,6 +1,6 @@
 -- The marks of each kind's pass are the meaning's; the words after each entry; the words as the list that is promised.
 -- Assumes nothing.
-use Prim.Native.Nat.{ℕ, pred, _+_, _-_, _≤_, _<_}
+use Prim.Native.Nat.{ℕ, pred, _+_, _*_, _-_, _≤_, _<_}
 use native.Mathlib.Decide.{decLt}
 use native.Mathlib.Numerals.{add-one}
 use native.Mathlib.Omega.{arith}
@@ -32,11 +32,11 @@ use Rattle.meaning.proofs.Words.{words-length, words-at, selected-more}
 use Rattle.layout.specs.Links.{leads, Linked}
 use Rattle.marking.specs.Pass.{Stored, Passed, Room, bitsOf, Marked}
 use Rattle.marking.specs.Steps.{alongMark, columnOf, aheadMark, Nearest}
-use Rattle.grammar.specs.Columns.{tableOf, entryIn}
+use Rattle.grammar.specs.Table.{tableOf, entryIn}
 use Rattle.marking.specs.declared.ahead.AskedAhead.the-variants.{Every}
 use Rattle.layout.proofs.LinkLaws.{ups-all, lefts-all, parent-next}
 use Rattle.marking.proofs.PassLaws.{stored-start, stored-same, passed-start}
-use Rattle.grammar.proofs.Columns.{table-length, table-at}
+use Rattle.grammar.proofs.Table.{table-length, table-at}
 use Rattle.terms.specs.Limits.{entriesMost}
 use Rattle.numbers.specs.Lists.{over}
 use Rattle.numbers.proofs.Lists.{over-is, over-length, over-at, over-past}
@@ -231,36 +231,36 @@ module _ (levels labels : List ℕ) (entries : List Entry) where
 
 -- ---- the entries of a table
 
-module _ (n : ℕ) (kinds firsts seconds : List ℕ) (rule : RuleEntries (tableOf n kinds firsts seconds)) where
+module _ (n : ℕ) (table : List ℕ) (rule : RuleEntries (tableOf n table)) where
   -- A rule in a table has 1 to 64 entries.
   pub table-few : (1 ≤ n) × (n ≤ entriesMost)
-  table-few = let e = table-length kinds firsts seconds n in (omega (arith, rule .nonempty), omega (arith, rule .few))
+  table-few = let e = table-length table n in (omega (arith, rule .nonempty), omega (arith, rule .few))
 
   module _ (i : ℕ) (l : i < n) where
-    within : i < length (tableOf n kinds firsts seconds)
-    within = omega (arith, table-length kinds firsts seconds n)
+    within : i < length (tableOf n table)
+    within = omega (arith, table-length table n)
 
-    -- The numbers in its columns are below i, where they are entry numbers.
-    pub table-fits : numbersOf (shapeOf (getD kinds i 0)) ≡ Entries → (getD firsts i 0 < i) × (getD seconds i 0 < i)
+    -- Its numbers are below i, where they are entry numbers.
+    pub table-fits : numbersOf (shapeOf (getD table (3 * i) 0)) ≡ Entries → (getD table (3 * i + 1) 0 < i) × (getD table (3 * i + 2) 0 < i)
     table-fits h =
-        formed-entries i (entryIn kinds firsts seconds i) (rw (table-at kinds firsts seconds n i l) at (rule .formed i within)) (numbers-are (getD kinds i 0) ∙ h)
+        formed-entries i (entryIn table i) (rw (table-at table n i l) at (rule .formed i within)) (numbers-are (getD table (3 * i) 0) ∙ h)
 
     -- One entry more.
     pub table-turn : (levels labels : List ℕ) {before ws after : List ℕ}
-        → Stored (length levels) (wordUpTo levels labels (tableOf n kinds firsts seconds) i) before ws
-        → Passed (length levels) i (means levels labels (shapeOf (getD kinds i 0)) (getD firsts i 0) (bitsOf ws (getD firsts i 0)) (bitsOf ws (getD seconds i 0))) ws after
-        → Stored (length levels) (wordUpTo levels labels (tableOf n kinds firsts seconds) (i + 1)) before after
+        → Stored (length levels) (wordUpTo levels labels (tableOf n table) i) before ws
+        → Passed (length levels) i (means levels labels (shapeOf (getD table (3 * i) 0)) (getD table (3 * i + 1) 0) (bitsOf ws (getD table (3 * i + 1) 0)) (bitsOf ws (getD table (3 * i + 2) 0))) ws after
+        → Stored (length levels) (wordUpTo levels labels (tableOf n table) (i + 1)) before after
     table-turn levels labels r p =
-        entry-turn levels labels (tableOf n kinds firsts seconds) rule i within r (rw (table-at kinds firsts seconds n i l) p)
+        entry-turn levels labels (tableOf n table) rule i within r (rw (table-at table n i l) p)
 
   -- After the last entry each word is its element's.
   pub table-end : (levels labels : List ℕ) {before ws : List ℕ} (i : ℕ) → i ≡ n
-      → Stored (length levels) (wordUpTo levels labels (tableOf n kinds firsts seconds) i) before ws
-      → Stored (length levels) (wordOf (tableOf n kinds firsts seconds) levels labels) before ws
+      → Stored (length levels) (wordUpTo levels labels (tableOf n table) i) before ws
+      → Stored (length levels) (wordOf (tableOf n table) levels labels) before ws
   unfolding wordOf
   table-end levels labels i e r =
-      stored-same (length levels) _ (λ s l. ap (λ (k : ℕ). wordUpTo levels labels (tableOf n kinds firsts seconds) k s)
-      (e ∙ sym (table-length kinds firsts seconds n))) r
+      stored-same (length levels) _ (λ s l. ap (λ (k : ℕ). wordUpTo levels labels (tableOf n table) k s)
+      (e ∙ sym (table-length table n))) r
 
 -- ---- counting
 

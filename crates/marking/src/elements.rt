@@ -7,10 +7,11 @@ ghost use Rattle.grammar.specs.Rules.{RuleEntries};
 ghost use Rattle.meaning.specs.Marks.{selected};
 ghost use Rattle.layout.specs.Links.{Linked};
 ghost use Rattle.marking.specs.Pass.{Stored, Marked};
-ghost use Rattle.grammar.specs.Columns.{tableOf};
+ghost use Rattle.grammar.specs.Table.{tableOf};
 ghost use Rattle.terms.specs.Limits.{entriesMost};
 use crate::entry::mark_entries;
 use crate::word::bit_at;
+use rules::table::ENTRY_PLACES;
 
 // Sets the first n words to 0.
 fn clear(marks: &mut [u64], n: usize)
@@ -42,9 +43,7 @@ fn count_selected(marks: &[u64], n: usize, entries: usize) -> usize
 // mark is true, with the tables of an accepted rule and report.
 pub(crate) fn mark_elements<'a>(
     entries: usize,
-    kinds: &[u16],
-    firsts: &[u16],
-    seconds: &[u16],
+    table: &[u16; ENTRY_PLACES],
     n: usize,
     labels: &[u16],
     levels: &[u16],
@@ -52,19 +51,16 @@ pub(crate) fn mark_elements<'a>(
     lefts: &'a [u16],
     marks: &mut [u64],
 ) -> usize
-    requires { ⌜ RuleEntries (tableOf entries (now kinds) (now firsts) (now seconds)) ⌝ }
-    requires { ⌜ (entries ≤ length (now kinds)) × (entries ≤ length (now firsts)) × (entries ≤ length (now seconds)) ⌝ }
+    requires { ⌜ RuleEntries (tableOf entries (now table)) ⌝ }
     requires { ⌜ LegalLevels (take n (now levels)) ⌝ }
     requires { ⌜ Linked (take n (now levels)) (take n (now ups)) (take n (now lefts)) ⌝ }
     requires { ⌜ (n ≤ length (now labels)) × (n ≤ length (now levels)) × (n ≤ length (now ups)) × (n ≤ length (now lefts)) × (n ≤ length (now marks)) ⌝ }
-    ensures { λ r. ⌜ Marked (tableOf entries (now (kinds .entry)) (now (firsts .entry)) (now (seconds .entry))) (take n (now (levels .entry))) (take n (now (labels .entry))) (now (marks .entry)) r (now (marks .exit)) ⌝ }
+    ensures { λ r. ⌜ Marked (tableOf entries (now (table .entry))) (take n (now (levels .entry))) (take n (now (labels .entry))) (now (marks .entry)) r (now (marks .exit)) ⌝ }
 {
     clear(marks, n);
     mark_entries(
         entries,
-        kinds,
-        firsts,
-        seconds,
+        table,
         &labels[..n],
         &levels[..n],
         &ups[..n],

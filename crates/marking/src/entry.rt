@@ -11,13 +11,14 @@ ghost use Rattle.meaning.specs.Marks.{means, wordOf};
 ghost use Rattle.layout.specs.Links.{leads, Linked};
 ghost use Rattle.marking.specs.Pass.{Passed, Stored, Room, bitsOf};
 ghost use Rattle.marking.specs.Steps.{alongMark, columnOf};
-ghost use Rattle.grammar.specs.Columns.{tableOf};
+ghost use Rattle.grammar.specs.Table.{tableOf};
 use crate::ahead::AskedAhead;
 use crate::ahead::gather_pass;
 use crate::ahead::turn_pass;
 use crate::back::back_pass;
 use crate::local::local_pass;
 use layout::columns::wide;
+use rules::table::ENTRY_PLACES;
 use terms::kind::Axis;
 use terms::kind::Shape;
 use terms::kind::leads_back;
@@ -85,31 +86,28 @@ fn mark_entry<'a>(
 // All entries, in order, over words that are 0.
 pub(crate) fn mark_entries<'a>(
     entries: usize,
-    kinds: &[u16],
-    firsts: &[u16],
-    seconds: &[u16],
+    table: &[u16; ENTRY_PLACES],
     labels: &[u16],
     levels: &[u16],
     ups: &'a [u16],
     lefts: &'a [u16],
     marks: &mut [u64],
 )
-    requires { ⌜ RuleEntries (tableOf entries (now kinds) (now firsts) (now seconds)) ⌝ }
-    requires { ⌜ (entries ≤ length (now kinds)) × (entries ≤ length (now firsts)) × (entries ≤ length (now seconds)) ⌝ }
+    requires { ⌜ RuleEntries (tableOf entries (now table)) ⌝ }
     requires { ⌜ LegalLevels (now levels) ⌝ }
     requires { ⌜ Linked (now levels) (now ups) (now lefts) ⌝ }
     requires { ⌜ length (now labels) ≡ length (now levels) ⌝ }
     requires { ⌜ Room (length (now levels)) 0 (now marks) ⌝ }
-    ensures { λ _. ⌜ Stored (length (now (levels .entry))) (wordOf (tableOf entries (now (kinds .entry)) (now (firsts .entry)) (now (seconds .entry))) (now (levels .entry)) (now (labels .entry))) (now (marks .entry)) (now (marks .exit)) ⌝ }
+    ensures { λ _. ⌜ Stored (length (now (levels .entry))) (wordOf (tableOf entries (now (table .entry))) (now (levels .entry)) (now (labels .entry))) (now (marks .entry)) (now (marks .exit)) ⌝ }
 {
     let mut i: usize = 0;
     while i < entries {
-        let row = row_of(wide(kinds[i]));
+        let row = row_of(wide(table[3 * i]));
         let shape = row.shape;
         mark_entry(
             shape,
-            wide(firsts[i]),
-            wide(seconds[i]),
+            wide(table[3 * i + 1]),
+            wide(table[3 * i + 2]),
             i,
             labels,
             levels,

@@ -2,7 +2,7 @@
 ghost use mathlib.Core.Path.{_≡_};
 ghost use Prim.Native.Nat.{_≤_};
 ghost use lib.ListN.{length};
-ghost use Rattle.grammar.specs.Columns.{tableOf};
+ghost use Rattle.grammar.specs.Table.{tableOf};
 ghost use Rattle.grammar.specs.Rules.{RuleEntries};
 ghost use Rattle.terms.specs.Limits.{reportMost};
 ghost use Rattle.terms.specs.declared.answer.Answer.the-variants.{Refused};
@@ -11,9 +11,9 @@ use crate::elements::mark_elements;
 use layout::columns::least;
 use layout::columns::least_of_four;
 use layout::layout::lay_out;
+use rules::table::ENTRY_PLACES;
 use rules::table::read_entries;
 use terms::answer::Answer;
-use terms::limits::ENTRIES_MOST;
 
 // What a whole report is answered: document 01's number, the place, how many elements there are and
 // how many of them are selected. Refused: elements and selected are 0.
@@ -47,9 +47,7 @@ fn refuse(number: u32, place: usize) -> Evaluation
 // Marks a report's elements with an accepted rule's entries.
 fn mark_by_entries(
     entries: usize,
-    kinds: &[u16],
-    firsts: &[u16],
-    seconds: &[u16],
+    table: &[u16; ENTRY_PLACES],
     report: &[u8],
     labels: &mut [u16],
     levels: &mut [u16],
@@ -57,9 +55,8 @@ fn mark_by_entries(
     lefts: &mut [u16],
     marks: &mut [u64],
 ) -> Evaluation
-    requires { ⌜ RuleEntries (tableOf entries (now kinds) (now firsts) (now seconds)) ⌝ }
-    requires { ⌜ (entries ≤ length (now kinds)) × (entries ≤ length (now firsts)) × (entries ≤ length (now seconds)) ⌝ }
-    ensures { λ r. ⌜ MarkedBy (tableOf entries (now (kinds .entry)) (now (firsts .entry)) (now (seconds .entry))) (now (report .entry)) (now (labels .entry)) (now (levels .entry)) (now (ups .entry)) (now (lefts .entry)) (now (marks .entry)) r (now (labels .exit)) (now (levels .exit)) (now (ups .exit)) (now (lefts .exit)) (now (marks .exit)) ⌝ }
+    requires { ⌜ RuleEntries (tableOf entries (now table)) ⌝ }
+    ensures { λ r. ⌜ MarkedBy (tableOf entries (now (table .entry))) (now (report .entry)) (now (labels .entry)) (now (levels .entry)) (now (ups .entry)) (now (lefts .entry)) (now (marks .entry)) r (now (labels .exit)) (now (levels .exit)) (now (ups .exit)) (now (lefts .exit)) (now (marks .exit)) ⌝ }
 {
     match lay_out(report, labels, levels, ups, lefts) {
         Answer::Accepted(n) => {
@@ -67,18 +64,7 @@ fn mark_by_entries(
             if least(columns, marks.len()) < n {
                 return refuse(9, 0);
             }
-            let selected = mark_elements(
-                entries,
-                kinds,
-                firsts,
-                seconds,
-                n,
-                labels,
-                levels,
-                ups,
-                lefts,
-                marks,
-            );
+            let selected = mark_elements(entries, table, n, labels, levels, ups, lefts, marks);
             Evaluation {
                 number: 0,
                 place: 0,
@@ -104,16 +90,12 @@ pub fn mark_report(
 ) -> Marking
     ensures { λ r. ⌜ ReportMarked (now (rule .entry)) (now (report .entry)) (now (labels .entry)) (now (levels .entry)) (now (ups .entry)) (now (lefts .entry)) (now (marks .entry)) r (now (labels .exit)) (now (levels .exit)) (now (ups .exit)) (now (lefts .exit)) (now (marks .exit)) ⌝ }
 {
-    let mut kinds = [0u16; ENTRIES_MOST];
-    let mut firsts = [0u16; ENTRIES_MOST];
-    let mut seconds = [0u16; ENTRIES_MOST];
-    match read_entries(rule, &mut kinds, &mut firsts, &mut seconds) {
+    let mut table = [0u16; ENTRY_PLACES];
+    match read_entries(rule, &mut table) {
         Answer::Accepted(entries) => {
             let answer = mark_by_entries(
                 entries,
-                &kinds,
-                &firsts,
-                &seconds,
+                &table,
                 report,
                 labels,
                 levels,

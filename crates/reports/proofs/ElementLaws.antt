@@ -1,12 +1,12 @@
 -- Laws of the walk that checks a report and fills the columns of its elements at once: what it knows between two turns, whatever the
 -- report is answered in the end; and bounds on the answer. Assumes nothing.
-use Prim.Native.Nat.{ℕ, zero, suc, _+_, _-_, _≤_, _<_, _*_}
+use Prim.Native.Nat.{ℕ, zero, suc, _+_, _-_, _≤_, _<_}
 use native.Mathlib.Omega.{arith}
 use mathlib.Core.Path.{_≡_, refl, sym, ap, subst, _∙_}
 use mathlib.Core.Bool.{Bool, true, false, cond, _||_, _&&_}
 use mathlib.Core.List.{List, [], _∷_, _++_, append-nil}
 use lib.ListN.{length, set}
-use Rattle.terms.specs.Answer.{Accepts, countOf}
+use Rattle.terms.specs.Answer.{Accepts}
 use Rattle.terms.specs.Frame.{startOf, kindAt}
 use Rattle.reports.specs.Report.{reportAnswer, tagsOf, tagAt, tagsBefore, recordFault, reportFault, reportStops, endOf, reportAnswerAt, lastRecord}
 use Rattle.reports.specs.Tags.{labels, levels, levelsFrom, Tag, opens, closes, depth, openedCount, tagFault}
@@ -22,7 +22,7 @@ use Rattle.numbers.proofs.First.{first-before}
 use Rattle.reports.specs.Elements.{labelsOf, levelsOf, tagsRead}
 use Rattle.numbers.specs.Lists.{listed, over}
 use Rattle.numbers.proofs.Lists.{over-none, over-next}
-use Rattle.terms.proofs.AnswerLaws.{found-accepted, refused-not, Within, within-either, refused-within, accepted-within, within-size}
+use Rattle.terms.proofs.AnswerLaws.{found-accepted, Within, within-either, refused-within, accepted-within, within-size}
 
 -- A column of the elements' table after a tag that puts a value behind the others, or puts nothing.
 pub element-put : (b : Bool) (xs more lent held last : List ℕ) (e v : ℕ) → length xs ≡ e → more ≡ cond b (xs ++ (v ∷ [])) xs
@@ -67,12 +67,11 @@ pub record WalkMid (s labels₀ levels₀ labels₁ levels₁ : List ℕ) (i at 
   pub mid : ReportMid s i at d e
   pub labels-are : labels₁ ≡ over (labels (tagsBefore s i)) labels₀
   pub levels-are : levels₁ ≡ over (levels (tagsBefore s i)) levels₀
-  pub size : at + 4 * d ≡ 10 * e
 
 module _ (s labels₀ levels₀ : List ℕ) where
   pub walk-start : WalkMid s labels₀ levels₀ labels₀ levels₀ 0 0 0 0
   unfolding listed labels levelsFrom
-  walk-start = record { mid = report-start s; labels-are = sym (over-none labels₀); levels-are = sym (over-none levels₀); size = omega arith }
+  walk-start = record { mid = report-start s; labels-are = sym (over-none labels₀); levels-are = sym (over-none levels₀) }
 
   module _ {labels₁ levels₁ : List ℕ} {i at d e : ℕ} (m : WalkMid s labels₀ levels₀ labels₁ levels₁ i at d e) where
     module _ (ne : at ≡ length s → ⊥) (f : recordFault s at d e ≡ 0) where
@@ -99,15 +98,14 @@ module _ (s labels₀ levels₀ : List ℕ) where
       -- One turn: the tag in hand, what it puts into the columns, and the reader's turn.
       pub walk-turn : (b : Bool) → eqb (kindAt s at) 1 ≡ b → (labels₂ levels₂ : List ℕ) (v at′ d′ e′ : ℕ)
           → v ≡ cond b (numberAt s (at + 4)) 0 → labels₂ ≡ cond b (set labels₁ e v) labels₁ → levels₂ ≡ cond b (set levels₁ e d) levels₁
-          → ReportMid s (i + 1) at′ d′ e′ → at′ + 4 * d′ ≡ 10 * e′ → WalkMid s labels₀ levels₀ labels₂ levels₂ (i + 1) at′ d′ e′
-      walk-turn b k labels₂ levels₂ v at′ d′ e′ n p q next sum =
+          → ReportMid s (i + 1) at′ d′ e′ → WalkMid s labels₀ levels₀ labels₂ levels₂ (i + 1) at′ d′ e′
+      walk-turn b k labels₂ levels₂ v at′ d′ e′ n p q next =
           record {
             mid = next;
             labels-are = element-put b (labels (tagsBefore s i)) _ labels₀ labels₁ labels₂ e _ (m .mid .opened-is) (labels-more b k) (m .labels-are)
                 (put-value b labels₁ labels₂ e v (numberAt s (at + 4)) n p);
             levels-are = element-put b (levels (tagsBefore s i)) _ levels₀ levels₁ levels₂ e _ (levels-count 0 (tagsBefore s i) ∙ m .mid .opened-is)
                 (levels-more b k) (m .levels-are) q;
-            size = sum;
           }
 
     module _ (some : 1 ≤ length s) (few : length s ≤ reportMost) where
@@ -130,14 +128,6 @@ module _ (s labels₀ levels₀ : List ℕ) where
       walk-refused ne f =
           held-at
           (mid-faulty s (reportFault s) (m .mid .mid) ne (λ z. f (sym (fault-is s (m .mid)) ∙ z)) (length s) (omega (arith, m .mid .mid .slow, m .mid .mid .within)))
-
-pub end-accepted : (size d e n : ℕ) → endOf size d e ≡ Accepted n → (d ≡ 0) × (e ≡ n)
-unfolding endOf
-end-accepted size d e n q = go (eqb d 0) refl q
-  where
-    go : (b : Bool) → eqb d 0 ≡ b → cond b (Accepted e) (Refused 7 size) ≡ Accepted n → (d ≡ 0) × (e ≡ n)
-    go true k z = (eqb-true d 0 k, ap countOf z)
-    go false k z = refused-not z
 
 -- Nothing is read of a report of no byte, or of too many.
 pub read-empty : (s lent : List ℕ) → length s < 1 → (lent ≡ over (labels (tagsRead s)) lent) × (lent ≡ over (levels (tagsRead s)) lent)

@@ -1,15 +1,13 @@
 -- What an accepted report holds, as the lists of labels and levels that the layers above work on. Document 01, "Records".
 -- Laws: proofs/ElementLaws.antt, and the crate grammar. Assumes nothing.
-use Prim.Native.Nat.{ℕ, _*_}
+use Prim.Native.Nat.{ℕ}
 use mathlib.Core.Path.{_≡_}
 use mathlib.Core.Bool.{cond}
-use lib.ListN.{length}
 use mathlib.Core.List.{List, []}
 use Rattle.terms.specs.Answer.{whereAccepted}
 use Rattle.reports.specs.Report.{reportAnswer, tagsOf}
 use Rattle.reports.specs.Tags.{Tag, labels, levels}
 use Rattle.terms.specs.declared.answer.Answer.{Answer}
-use Rattle.terms.specs.declared.answer.Answer.the-variants.{Accepted}
 use Rattle.terms.specs.Limits.{reportMost, missized}
 use Rattle.numbers.specs.Lists.{over}
 
@@ -25,9 +23,8 @@ unfoldable pub tagsRead : List ℕ → List Tag
 tagsRead s = cond (missized reportMost s) [] (tagsOf s)
 
 -- What reading the elements answers and leaves in lent tables of any length: one walk, so that a refused report leaves the elements
--- opened before its fault. A table that is too short has those that it has room for; an accepted report has ten bytes an element.
+-- opened before its fault. A table that is too short has those that it has room for.
 pub record ElementsTaken (s labels₀ levels₀ : List ℕ) (r : Answer) (labels₁ levels₁ : List ℕ) : Type 0 where
   pub answer : r ≡ reportAnswer s
   pub labels-are : labels₁ ≡ over (labels (tagsRead s)) labels₀
   pub levels-are : levels₁ ≡ over (levels (tagsRead s)) levels₀
-  pub sized : (n : ℕ) → r ≡ Accepted n → length s ≡ 10 * n

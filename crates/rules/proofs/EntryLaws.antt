@@ -1,12 +1,12 @@
 -- Laws of the walk that checks a rule and fills the table of its entries at once: what it knows between two turns, whatever the rule is
 -- answered in the end; and bounds on the answer. Assumes nothing.
-use Prim.Native.Nat.{ℕ, _+_, _-_, _≤_, _<_}
+use Prim.Native.Nat.{ℕ, _+_, _*_, _-_, _≤_, _<_}
 use native.Mathlib.Omega.{arith}
 use native.Mathlib.Numerals.{add-one}
-use mathlib.Core.Path.{_≡_, sym, ap, _∙_}
+use mathlib.Core.Path.{_≡_, refl, sym, ap, _∙_}
 use mathlib.Core.Bool.{Bool, true, false, cond, _||_}
-use mathlib.Core.List.{List, [], _∷_, _++_, map, map-append}
-use lib.ListN.{length, set, length-map}
+use mathlib.Core.List.{List, [], _∷_, _++_, append-assoc}
+use lib.ListN.{length, set, length-append}
 use Rattle.terms.specs.Answer.{countOf}
 use Rattle.numbers.specs.First.{first}
 use Rattle.terms.specs.Frame.{startOf}
@@ -21,7 +21,7 @@ use Rattle.terms.proofs.Reading.{mid-start, mid-ended, mid-faulty, mid-reached}
 use Rattle.rules.proofs.RuleLaws.{RuleMid, rule-accepts, rule-refuses, taken-fault, rule-sound}
 use Rattle.terms.specs.Limits.{entriesMost, ruleMost}
 use Rattle.numbers.proofs.First.{first-le, first-before}
-use Rattle.rules.specs.Entries.{entriesBefore, entriesOf, entriesRead, EntriesTaken, kindOf, aOf, bOf}
+use Rattle.rules.specs.Entries.{entriesBefore, entriesOf, entriesRead, flat, EntriesTaken}
 use Rattle.numbers.specs.Lists.{listed, over}
 use Rattle.numbers.proofs.Lists.{over-none, over-next, listed-length}
 use Rattle.terms.proofs.AnswerLaws.{refused-not, Within, within-either, refused-within, accepted-within, within-size}
@@ -30,23 +30,41 @@ use Rattle.terms.proofs.AnswerLaws.{refused-not, Within, within-either, refused
 pub entries-length : (s : List ℕ) (i : ℕ) → length (entriesBefore s i) ≡ i
 entries-length s i = listed-length i _
 
--- A column of the entries' table, one entry more.
-column-next : (f : Entry → ℕ) (s lent : List ℕ) (i at : ℕ) → startOf s i ≡ at
-    → set (over (map f (entriesBefore s i)) lent) i (f (entryAt s at)) ≡ over (map f (entriesBefore s (i + 1))) lent
-unfolding listed
-column-next f s lent i at e =
-    over-next (map f (entriesBefore s i)) lent (f (entryAt s at)) i (length-map (entriesBefore s i) f ∙ entries-length s i)
-    ∙ ap (λ (xs : List ℕ). over xs lent) (sym more)
-  where
-    more : map f (entriesBefore s (i + 1)) ≡ map f (entriesBefore s i) ++ (f (entryAt s at) ∷ [])
-    more =
-        ap (λ (k : ℕ). map f (entriesBefore s k)) (add-one i)
-        ∙ map-append f (entriesBefore s i) (entryAt s (startOf s i) ∷ [])
-        ∙ ap (λ (x : ℕ). map f (entriesBefore s i) ++ (f (entryAt s x) ∷ [])) e
+-- Three numbers an entry.
+pub flat-length : (es : List Entry) → length (flat es) ≡ 3 * length es
+unfolding flat
+flat-length [] = refl
+flat-length (e ∷ es) = omega (arith, flat-length es)
 
-pub column-put : (f : Entry → ℕ) (s lent held last : List ℕ) (i at : ℕ) → startOf s i ≡ at
-    → held ≡ over (map f (entriesBefore s i)) lent → last ≡ set held i (f (entryAt s at)) → last ≡ over (map f (entriesBefore s (i + 1))) lent
-column-put f s lent held last i at e p q = q ∙ ap (λ (xs : List ℕ). set xs i (f (entryAt s at))) p ∙ column-next f s lent i at e
+flat-append : (es : List Entry) (e : Entry) → flat (es ++ (e ∷ [])) ≡ flat es ++ (e .kind ∷ e .a ∷ e .b ∷ [])
+unfolding flat
+flat-append [] e = refl
+flat-append (x ∷ es) e = ap (λ (xs : List ℕ). x .kind ∷ x .a ∷ x .b ∷ xs) (flat-append es e)
+
+-- Three numbers more behind those that stand in a lent list.
+over-three : (xs lent : List ℕ) (i x y z : ℕ) → length xs ≡ i
+    → set (set (set (over xs lent) i x) (i + 1) y) (i + 2) z ≡ over (xs ++ (x ∷ y ∷ z ∷ [])) lent
+over-three xs lent i x y z e =
+    ap (λ (ys : List ℕ). set (set ys (i + 1) y) (i + 2) z) (over-next xs lent x i e)
+    ∙ ap (λ (ys : List ℕ). set ys (i + 2) z) (over-next (xs ++ (x ∷ [])) lent y (i + 1) (length-append xs (x ∷ []) ∙ omega arith))
+    ∙ over-next ((xs ++ (x ∷ [])) ++ (y ∷ [])) lent z (i + 2)
+    (length-append (xs ++ (x ∷ [])) (y ∷ []) ∙ omega (arith, length-append xs (x ∷ [])))
+    ∙ ap (λ (ys : List ℕ). over ys lent)
+    (append-assoc (xs ++ (x ∷ [])) (y ∷ []) (z ∷ []) ∙ append-assoc xs (x ∷ []) (y ∷ z ∷ []))
+
+-- The table with one entry more.
+table-put : (s lent held last : List ℕ) (i at : ℕ) → startOf s i ≡ at → held ≡ over (flat (entriesBefore s i)) lent
+    → last ≡ set (set (set held (3 * i) (entryAt s at .kind)) (3 * i + 1) (entryAt s at .a)) (3 * i + 2) (entryAt s at .b)
+    → last ≡ over (flat (entriesBefore s (i + 1))) lent
+unfolding listed
+table-put s lent held last i at e p q =
+    q ∙ ap (λ (xs : List ℕ). set (set (set xs (3 * i) (entryAt s at .kind)) (3 * i + 1) (entryAt s at .a)) (3 * i + 2) (entryAt s at .b)) p
+    ∙ over-three (flat (entriesBefore s i)) lent (3 * i) _ _ _ (flat-length (entriesBefore s i) ∙ ap (λ (k : ℕ). 3 * k) (entries-length s i))
+    ∙ ap (λ (xs : List ℕ). over xs lent) (sym (flat-append (entriesBefore s i) (entryAt s at)))
+    ∙ ap (λ (es : List Entry). over (flat es) lent) (sym more)
+  where
+    more : entriesBefore s (i + 1) ≡ entriesBefore s i ++ (entryAt s at ∷ [])
+    more = ap (entriesBefore s) (add-one i) ∙ ap (λ (x : ℕ). entriesBefore s i ++ (entryAt s x ∷ [])) e
 
 -- The entries of an accepted rule of n entries, and of a refused one.
 pub entries-taken : (s : List ℕ) (n : ℕ) → Accepted n ≡ ruleAnswer s → entriesOf s ≡ entriesBefore s n
@@ -111,41 +129,35 @@ entries-taken-all s n a =
     go false false z = refused-not (sym z)
     go false true z = ap (λ (x : Answer). entriesBefore s (countOf x)) (sym z)
 
--- Between two turns of the walk that fills the entries' columns.
-pub record EntriesMid (s kinds₀ firsts₀ seconds₀ kinds firsts seconds : List ℕ) (i at : ℕ) : Type 0 where
+-- Between two turns of the walk that fills the table.
+pub record EntriesMid (s table₀ table : List ℕ) (i at : ℕ) : Type 0 where
   pub mid : RuleMid s i at
   pub few : i ≤ entriesMost
-  pub kinds-so : kinds ≡ over (map kindOf (entriesBefore s i)) kinds₀
-  pub firsts-so : firsts ≡ over (map aOf (entriesBefore s i)) firsts₀
-  pub seconds-so : seconds ≡ over (map bOf (entriesBefore s i)) seconds₀
+  pub table-so : table ≡ over (flat (entriesBefore s i)) table₀
 
-module _ (s kinds₀ firsts₀ seconds₀ : List ℕ) where
-  pub entries-start : EntriesMid s kinds₀ firsts₀ seconds₀ kinds₀ firsts₀ seconds₀ 0 0
-  unfolding listed
-  entries-start =
-      record { mid = mid-start _ _; few = omega arith; kinds-so = sym (over-none kinds₀); firsts-so = sym (over-none firsts₀); seconds-so = sym (over-none seconds₀) }
+module _ (s table₀ : List ℕ) where
+  pub entries-start : EntriesMid s table₀ table₀ 0 0
+  unfolding listed flat
+  entries-start = record { mid = mid-start _ _; few = omega arith; table-so = sym (over-none table₀) }
 
-  -- Where nothing is read the columns stay.
-  pub entries-kept : entriesRead s ≡ [] → (r : Answer) → r ≡ ruleAnswer s → EntriesTaken s kinds₀ firsts₀ seconds₀ r kinds₀ firsts₀ seconds₀
-  entries-kept e r a =
-      record { answer = a; kinds-are = rw e (sym (over-none kinds₀)); firsts-are = rw e (sym (over-none firsts₀)); seconds-are = rw e (sym (over-none seconds₀)) }
+  -- Where nothing is read the table stays.
+  pub entries-kept : entriesRead s ≡ [] → (r : Answer) → r ≡ ruleAnswer s → EntriesTaken s table₀ r table₀
+  unfolding flat
+  entries-kept e r a = record { answer = a; table-is = rw e (sym (over-none table₀)) }
 
-  module _ {kinds firsts seconds : List ℕ} {i at : ℕ} (m : EntriesMid s kinds₀ firsts₀ seconds₀ kinds firsts seconds i at) where
-    pub entries-turn : (e : Entry) → e ≡ entryAt s at → {at′ : ℕ} → RuleMid s (i + 1) at′ → i < entriesMost → {ks fs ss : List ℕ} → ks ≡ set kinds i (e .kind)
-        → fs ≡ set firsts i (e .a) → ss ≡ set seconds i (e .b) → EntriesMid s kinds₀ firsts₀ seconds₀ ks fs ss (i + 1) at′
-    entries-turn e q next l k f t =
+  module _ {table : List ℕ} {i at : ℕ} (m : EntriesMid s table₀ table i at) where
+    pub entries-turn : (e : Entry) → e ≡ entryAt s at → {at′ : ℕ} → RuleMid s (i + 1) at′ → i < entriesMost → {last : List ℕ}
+        → last ≡ set (set (set table (3 * i) (e .kind)) (3 * i + 1) (e .a)) (3 * i + 2) (e .b) → EntriesMid s table₀ last (i + 1) at′
+    entries-turn e q next l k =
         record {
           mid = next;
           few = omega arith;
-          kinds-so = column-put kindOf s kinds₀ kinds _ i at (m .mid .begins) (m .kinds-so) (k ∙ ap (λ (x : Entry). set kinds i (x .kind)) q);
-          firsts-so = column-put aOf s firsts₀ firsts _ i at (m .mid .begins) (m .firsts-so) (f ∙ ap (λ (x : Entry). set firsts i (x .a)) q);
-          seconds-so = column-put bOf s seconds₀ seconds _ i at (m .mid .begins) (m .seconds-so) (t ∙ ap (λ (x : Entry). set seconds i (x .b)) q);
+          table-so = table-put s table₀ table _ i at (m .mid .begins) (m .table-so)
+              (k ∙ ap (λ (x : Entry). set (set (set table (3 * i) (x .kind)) (3 * i + 1) (x .a)) (3 * i + 2) (x .b)) q);
         }
 
-    pub entries-done : {r : Answer} → Halted s i r → EntriesTaken s kinds₀ firsts₀ seconds₀ r kinds firsts seconds
-    entries-done h =
-        let e = h .read-is in
-        record { answer = h .answer-is; kinds-are = rw e (m .kinds-so); firsts-are = rw e (m .firsts-so); seconds-are = rw e (m .seconds-so) }
+    pub entries-done : {r : Answer} → Halted s i r → EntriesTaken s table₀ r table
+    entries-done h = let e = h .read-is in record { answer = h .answer-is; table-is = rw e (m .table-so) }
 
 -- ---- a rule
 

@@ -17,13 +17,6 @@ read-rule-only s p q = only p q
 pub take-entry-only : (s : List ℕ) (own at : ℕ) {r r′ : Taken} → r ≡ takenAt s own at → r′ ≡ takenAt s own at → r ≡ r′
 take-entry-only s own at p q = only p q
 
--- What reading the entries answers and leaves in the tables.
-pub read-entries-only : (s kinds firsts seconds : List ℕ) {r r′ : Answer} {k k′ a a′ b b′ : List ℕ}
-    → EntriesTaken s kinds firsts seconds r k a b → EntriesTaken s kinds firsts seconds r′ k′ a′ b′
-    → (r ≡ r′) × (k ≡ k′) × (a ≡ a′) × (b ≡ b′)
-read-entries-only s kinds firsts seconds p q = (
-  only (p .answer) (q .answer),
-  only (p .kinds-are) (q .kinds-are),
-  only (p .firsts-are) (q .firsts-are),
-  only (p .seconds-are) (q .seconds-are),
-)
+-- What reading the entries answers and leaves in the table.
+pub read-entries-only : (s table : List ℕ) {r r′ : Answer} {t t′ : List ℕ} → EntriesTaken s table r t → EntriesTaken s table r′ t′ → (r ≡ r′) × (t ≡ t′)
+read-entries-only s table p q = (only (p .answer) (q .answer), only (p .table-is) (q .table-is))

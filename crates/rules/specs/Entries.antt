@@ -3,7 +3,7 @@
 use Prim.Native.Nat.{ℕ}
 use mathlib.Core.Path.{_≡_}
 use mathlib.Core.Bool.{cond}
-use mathlib.Core.List.{List, [], map}
+use mathlib.Core.List.{List, [], _∷_}
 use Rattle.terms.specs.Answer.{countOf}
 use Rattle.numbers.specs.First.{first}
 use Rattle.terms.specs.Frame.{startOf}
@@ -25,19 +25,12 @@ entriesOf s = entriesBefore s (countOf (ruleAnswer s))
 unfoldable pub entriesRead : List ℕ → List Entry
 entriesRead s = cond (missized ruleMost s) [] (entriesBefore s (first (ruleStops s) entriesMost))
 
--- The columns of the entries' table.
-abbrev pub kindOf : Entry → ℕ
-kindOf e = e .kind
+-- The numbers of entries as a table has them: kind, a and b of each, one entry after the other.
+unfoldable pub flat : List Entry → List ℕ
+flat [] = []
+flat (e ∷ es) = e .kind ∷ e .a ∷ e .b ∷ flat es
 
-abbrev pub aOf : Entry → ℕ
-aOf e = e .a
-
-abbrev pub bOf : Entry → ℕ
-bOf e = e .b
-
--- What reading the entries answers and leaves in the lent tables: one walk, so that a refused rule leaves the entries before its fault.
-pub record EntriesTaken (s kinds firsts seconds : List ℕ) (r : Answer) (kinds′ firsts′ seconds′ : List ℕ) : Type 0 where
+-- What reading the entries answers and leaves in the lent table: one walk, so that a refused rule leaves the entries before its fault.
+pub record EntriesTaken (s table : List ℕ) (r : Answer) (table′ : List ℕ) : Type 0 where
   pub answer : r ≡ ruleAnswer s
-  pub kinds-are : kinds′ ≡ over (map kindOf (entriesRead s)) kinds
-  pub firsts-are : firsts′ ≡ over (map aOf (entriesRead s)) firsts
-  pub seconds-are : seconds′ ≡ over (map bOf (entriesRead s)) seconds
+  pub table-is : table′ ≡ over (flat (entriesRead s)) table

@@ -5,6 +5,7 @@ ghost use Prim.Native.Nat.{_+_, _*_, _≤_, _<_};
 ghost use lib.ListN.{length};
 ghost use Rattle.rules.specs.Rule.{entryOf, misdirected, faultyAt, fineAt, takenAt, ruleAnswer};
 use crate::frame::frame_of;
+use crate::table::ENTRY_PLACES;
 use crate::table::read_entries;
 use numbers::bytes::number_at;
 use numbers::bytes::number_where;
@@ -109,12 +110,10 @@ pub fn take_entry(s: &[u8], own: usize, at: usize) -> Taken
     }
 }
 
-// Reads a rule: accepted with the number of its entries, or refused. The tables are not wanted.
+// Reads a rule: accepted with the number of its entries, or refused. The table is not wanted.
 pub fn read_rule(rule: &[u8]) -> Answer
     ensures { λ r. ⌜ r ≡ ruleAnswer (now (rule .entry)) ⌝ }
 {
-    let mut kinds = [0u16; ENTRIES_MOST];
-    let mut firsts = [0u16; ENTRIES_MOST];
-    let mut seconds = [0u16; ENTRIES_MOST];
-    read_entries(rule, &mut kinds, &mut firsts, &mut seconds)
+    let mut table = [0u16; ENTRY_PLACES];
+    read_entries(rule, &mut table)
 }

@@ -1,43 +1,30 @@
 // The table of a rule's entries, filled in the one walk that checks the rule: a refusal leaves what was
 // read before the fault; the promise says what that is.
 ghost use mathlib.Core.Path.{_≡_};
-ghost use Prim.Native.Nat.{_<_};
+ghost use Prim.Native.Nat.{_+_, _*_, _<_};
 ghost use lib.ListN.{set};
 ghost use Rattle.terms.specs.Limits.{entriesMost};
 ghost use Rattle.rules.specs.Entries.{EntriesTaken};
 use crate::rule::take_entry;
 use terms::answer::Answer;
-use terms::limits::ENTRIES_MOST;
 use terms::limits::RULE_MOST;
 
-// Puts an entry's numbers at place i.
-fn put_numbers(
-    kind: usize,
-    a: usize,
-    b: usize,
-    i: usize,
-    kinds: &mut [u16; ENTRIES_MOST],
-    firsts: &mut [u16; ENTRIES_MOST],
-    seconds: &mut [u16; ENTRIES_MOST],
-)
+// The table has three numbers an entry, kind, a and b, one entry after the other.
+pub const ENTRY_PLACES: usize = 192;
+
+// Puts an entry's numbers into the table as entry i.
+fn put_numbers(kind: usize, a: usize, b: usize, i: usize, table: &mut [u16; ENTRY_PLACES])
     requires { ⌜ (kind < 65536) × (a < 65536) × (b < 65536) × (i < entriesMost) ⌝ }
-    ensures { λ _. ⌜ now (kinds .exit) ≡ set (now (kinds .entry)) i kind ⌝ }
-    ensures { λ _. ⌜ now (firsts .exit) ≡ set (now (firsts .entry)) i a ⌝ }
-    ensures { λ _. ⌜ now (seconds .exit) ≡ set (now (seconds .entry)) i b ⌝ }
+    ensures { λ _. ⌜ now (table .exit) ≡ set (set (set (now (table .entry)) (3 * i) kind) (3 * i + 1) a) (3 * i + 2) b ⌝ }
 {
-    kinds[i] = kind as u16;
-    firsts[i] = a as u16;
-    seconds[i] = b as u16;
+    table[3 * i] = kind as u16;
+    table[3 * i + 1] = a as u16;
+    table[3 * i + 2] = b as u16;
 }
 
-// Reads a rule, and puts its entries into the lent tables: one walk, which checks and fills.
-pub fn read_entries(
-    rule: &[u8],
-    kinds: &mut [u16; ENTRIES_MOST],
-    firsts: &mut [u16; ENTRIES_MOST],
-    seconds: &mut [u16; ENTRIES_MOST],
-) -> Answer
-    ensures { λ r. ⌜ EntriesTaken (now (rule .entry)) (now (kinds .entry)) (now (firsts .entry)) (now (seconds .entry)) r (now (kinds .exit)) (now (firsts .exit)) (now (seconds .exit)) ⌝ }
+// Reads a rule, and puts its entries into the lent table: one walk, which checks and fills.
+pub fn read_entries(rule: &[u8], table: &mut [u16; ENTRY_PLACES]) -> Answer
+    ensures { λ r. ⌜ EntriesTaken (now (rule .entry)) (now (table .entry)) r (now (table .exit)) ⌝ }
 {
     if rule.len() < 1 {
         return Answer::Refused(1, 0);
@@ -56,7 +43,7 @@ pub fn read_entries(
             break Answer::Refused(taken.fault, at);
         }
         let e = taken.entry;
-        put_numbers(e.kind, e.a, e.b, n, kinds, firsts, seconds);
+        put_numbers(e.kind, e.a, e.b, n, table);
         at = taken.next;
         n = n + 1;
     };

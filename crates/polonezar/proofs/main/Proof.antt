@@ -18,10 +18,10 @@ read-full-requires c κs = search needs
 array-share-prefix-input : tie.Need-array-share-prefix-input
 array-share-prefix-input c = search needs
 
-slice-aggregate-put-record : tie.Need-slice-aggregate-put-record
-slice-aggregate-put-record c = search needs
+slice-aggregate-put-printout : tie.Need-slice-aggregate-put-printout
+slice-aggregate-put-printout c = search needs
 
-put-printout-requires : tie.Need-put-record-requires
+put-printout-requires : tie.Need-put-printout-requires
 put-printout-requires c κs = search needs
 
 array-share-prefix-out : tie.Need-array-share-prefix-out
@@ -53,7 +53,7 @@ main-spec =
     slice-aggregate-read-full
     read-full-requires
     array-share-prefix-input
-    slice-aggregate-put-record
+    slice-aggregate-put-printout
     put-printout-requires
     array-share-prefix-out
     slice-aggregate-write-all

@@ -6,7 +6,7 @@ use Rattle.judge.proofs.PrintoutLaws.{rendered-room}
 use Rattle.edges.proofs.answer.put_told.Statement.{statement}
 use Rattle.edges.proofs.answer.put_told.Tie as tie
 
-put-printout-requires : tie.Need-put-record-requires
+put-printout-requires : tie.Need-put-printout-requires
 put-printout-requires c κs = search needs
 
 put-byte-requires : tie.Need-put-byte-requires

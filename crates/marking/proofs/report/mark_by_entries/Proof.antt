@@ -4,10 +4,10 @@ use mathlib.Core.Path.{sym, ap, refl, _∙_}
 use Rattle.terms.specs.Answer.{placeOf}
 use Rattle.layout.specs.Layout.{roomIn}
 use Rattle.marking.proofs.AnswerLaws.{room-for-is, room-for-within, by-refused, by-short, by-room, held, marked-few}
+use Rattle.reports.proofs.ElementLaws.{report-small}
 use borrow.Author.Needs.{needs}
 use Rattle.marking.proofs.report.mark_by_entries.Statement.{statement}
 use Rattle.marking.proofs.report.mark_by_entries.Tie as tie
-use Rattle.reports.proofs.ElementLaws.{report-small}
 
 lay-out-requires : tie.Need-lay-out-requires
 lay-out-requires c κs = search needs
@@ -39,31 +39,30 @@ same-length-4 c = search needs
 returns : tie.Need-returns
 unfolding roomIn
 returns c =
-    let is = room-for-is (c .before .before .before .before .before .before .before .before .before .before .before .before .before .before .before .before .before .before .before .before .before .before .before .before .before .before .before .before .before .args .marks .now) (c .before .before .before .before .before .before .before .before .before .before .before .before .before .before .before .lay-out .ensures) _ _ (c .before .before .before .least-of-four .ensures) (c .before .before .least .ensures) in
+    let is = room-for-is (c .before .before .before .before .before .before .before .before .before .before .before .before .before .before .before .before .before .before .before .before .before .before .before .before .before .before .args .marks .now) (c .before .before .before .before .before .before .before .before .before .before .before .before .before .before .before .lay-out .ensures) _ _ (c .before .before .before .least-of-four .ensures) (c .before .before .least .ensures) in
     rw (c .refuse .ensures) (by-short _ _ (c .before .before .before .before .before .before .before .before .before .before .before .before .before .before .before .lay-out .ensures) (c .before .before .before .before .before .n .given .1) _ is (c .before .if1 .taken))
 
 mark-elements-requires : tie.Need-mark-elements-requires
 unfolding roomIn
 mark-elements-requires c κs =
-    let p = c .before .before .before .before .before .before .before .before .before .before .before .before .before .before .before .before .before .before .before .before .before .before .before .before .before .before .before .before .before .before .before .before .before .args in
-    let q = c .before .before .before .before .before .before .before .before .before .before .before .before .before .before .before .before .before .before .before .before .before .before .before .before .before .before .before .before .before .before .before .before .before .pre in
-    let is = room-for-is (c .before .before .before .before .before .before .before .before .before .before .before .before .before .before .before .before .before .before .before .before .before .before .before .before .before .before .before .before .before .before .before .before .before .args .marks .now) (c .before .before .before .before .before .before .before .before .before .before .before .before .before .before .before .before .before .before .before .lay-out .ensures) _ _ (c .before .before .before .before .before .before .before .least-of-four .ensures) (c .before .before .before .before .before .before .least .ensures) in
+    let p = c .before .before .before .before .before .before .before .before .before .before .before .before .before .before .before .before .before .before .before .before .before .before .before .before .before .before .before .before .before .before .args in
+    let is = room-for-is (c .before .before .before .before .before .before .before .before .before .before .before .before .before .before .before .before .before .before .before .before .before .before .before .before .before .before .before .before .before .before .args .marks .now) (c .before .before .before .before .before .before .before .before .before .before .before .before .before .before .before .before .before .before .before .lay-out .ensures) _ _ (c .before .before .before .before .before .before .before .least-of-four .ensures) (c .before .before .before .before .before .before .least .ensures) in
     let h = c .before .before .before .before .before .if1 .left in
     let e = held (p .marks .now) (c .before .before .before .before .before .before .before .before .before .before .before .before .before .before .before .before .before .before .before .lay-out .ensures) (c .before .before .before .before .before .before .before .before .before .n .given .1) _ is h in
     let room = room-for-within (p .labels .now) (p .levels .now) (p .ups .now) (p .lefts .now) (p .marks .now) _ _ is h in
-    (q .0, (q .1, (e .legal, (e .linked, (e .labels-room, e .levels-room, e .ups-room, e .lefts-room, room .1)))))
+    (c .before .before .before .before .before .before .before .before .before .before .before .before .before .before .before .before .before .before .before .before .before .before .before .before .before .before .before .before .before .before .pre, (e .legal, (e .linked, (e .labels-room, e .levels-room, e .ups-room, e .lefts-room, room .1))))
 
-cast-t41 : tie.Need-cast-t41
+cast-t39 : tie.Need-cast-t39
 unfolding roomIn
-cast-t41 c =
-    let is = room-for-is (c .before .before .before .before .before .before .before .before .before .before .before .before .before .before .before .before .before .before .before .before .before .before .before .before .before .before .before .before .before .before .before .before .before .before .before .before .args .marks .now) (c .before .before .before .before .before .before .before .before .before .before .before .before .before .before .before .before .before .before .before .before .before .before .lay-out .ensures) _ _ (c .before .before .before .before .before .before .before .before .before .before .least-of-four .ensures) (c .before .before .before .before .before .before .before .before .before .least .ensures) in
-    let e = held (c .before .before .before .before .before .before .before .before .before .before .before .before .before .before .before .before .before .before .before .before .before .before .before .before .before .before .before .before .before .before .before .before .before .before .before .before .args .marks .now) (c .before .before .before .before .before .before .before .before .before .before .before .before .before .before .before .before .before .before .before .before .before .before .lay-out .ensures) (c .before .before .before .before .before .before .before .before .before .before .before .before .n .given .1) _ is (c .before .before .before .before .before .before .before .before .if1 .left) in omega (arith, e .few)
+cast-t39 c =
+    let is = room-for-is (c .before .before .before .before .before .before .before .before .before .before .before .before .before .before .before .before .before .before .before .before .before .before .before .before .before .before .before .before .before .before .before .before .before .args .marks .now) (c .before .before .before .before .before .before .before .before .before .before .before .before .before .before .before .before .before .before .before .before .before .before .lay-out .ensures) _ _ (c .before .before .before .before .before .before .before .before .before .before .least-of-four .ensures) (c .before .before .before .before .before .before .before .before .before .least .ensures) in
+    let e = held (c .before .before .before .before .before .before .before .before .before .before .before .before .before .before .before .before .before .before .before .before .before .before .before .before .before .before .before .before .before .before .before .before .before .args .marks .now) (c .before .before .before .before .before .before .before .before .before .before .before .before .before .before .before .before .before .before .before .before .before .before .lay-out .ensures) (c .before .before .before .before .before .before .before .before .before .before .before .before .n .given .1) _ is (c .before .before .before .before .before .before .before .before .if1 .left) in omega (arith, e .few)
 
-cast-t42 : tie.Need-cast-t42
+cast-t40 : tie.Need-cast-t40
 unfolding roomIn
-cast-t42 c =
-    let is = room-for-is (c .before .before .before .before .before .before .before .before .before .before .before .before .before .before .before .before .before .before .before .before .before .before .before .before .before .before .before .before .before .before .before .before .before .before .before .before .args .marks .now) (c .before .before .before .before .before .before .before .before .before .before .before .before .before .before .before .before .before .before .before .before .before .before .lay-out .ensures) _ _ (c .before .before .before .before .before .before .before .before .before .before .least-of-four .ensures) (c .before .before .before .before .before .before .before .before .before .least .ensures) in
-    let e = held (c .before .before .before .before .before .before .before .before .before .before .before .before .before .before .before .before .before .before .before .before .before .before .before .before .before .before .before .before .before .before .before .before .before .before .before .before .args .marks .now) (c .before .before .before .before .before .before .before .before .before .before .before .before .before .before .before .before .before .before .before .before .before .before .lay-out .ensures) (c .before .before .before .before .before .before .before .before .before .before .before .before .n .given .1) _ is (c .before .before .before .before .before .before .before .before .if1 .left) in
+cast-t40 c =
+    let is = room-for-is (c .before .before .before .before .before .before .before .before .before .before .before .before .before .before .before .before .before .before .before .before .before .before .before .before .before .before .before .before .before .before .before .before .before .args .marks .now) (c .before .before .before .before .before .before .before .before .before .before .before .before .before .before .before .before .before .before .before .before .before .before .lay-out .ensures) _ _ (c .before .before .before .before .before .before .before .before .before .before .least-of-four .ensures) (c .before .before .before .before .before .before .before .before .before .least .ensures) in
+    let e = held (c .before .before .before .before .before .before .before .before .before .before .before .before .before .before .before .before .before .before .before .before .before .before .before .before .before .before .before .before .before .before .before .before .before .args .marks .now) (c .before .before .before .before .before .before .before .before .before .before .before .before .before .before .before .before .before .before .before .before .before .before .lay-out .ensures) (c .before .before .before .before .before .before .before .before .before .before .before .before .n .given .1) _ is (c .before .before .before .before .before .before .before .before .if1 .left) in
     omega (arith, e .few, marked-few _ _ refl (e .levels-room) (c .before .before .mark-elements .ensures))
 
 enum-known-number : tie.Need-enum-known-number
@@ -90,7 +89,7 @@ same-length-9 c = search needs
 returns-2 : tie.Need-returns-2
 unfolding roomIn
 returns-2 c =
-    let is = room-for-is (c .before .before .before .before .before .before .before .before .before .before .before .before .before .before .before .before .before .before .before .before .before .before .before .before .before .before .before .before .before .before .before .before .before .before .before .before .args .marks .now) (c .before .before .before .before .before .before .before .before .before .before .before .before .before .before .before .before .before .before .before .before .before .before .lay-out .ensures) _ _ (c .before .before .before .before .before .before .before .before .before .before .least-of-four .ensures) (c .before .before .before .before .before .before .before .before .before .least .ensures) in
+    let is = room-for-is (c .before .before .before .before .before .before .before .before .before .before .before .before .before .before .before .before .before .before .before .before .before .before .before .before .before .before .before .before .before .before .before .before .before .args .marks .now) (c .before .before .before .before .before .before .before .before .before .before .before .before .before .before .before .before .before .before .before .before .before .before .lay-out .ensures) _ _ (c .before .before .before .before .before .before .before .before .before .before .least-of-four .ensures) (c .before .before .before .before .before .before .before .before .before .least .ensures) in
     by-room _ _ (c .before .before .before .before .before .before .before .before .before .before .before .before .before .before .before .before .before .before .before .before .before .before .lay-out .ensures) (c .before .before .before .before .before .before .before .before .before .before .before .before .n .given .1) _ is (c .before .before .before .before .before .before .before .before .if1 .left) (c .before .before .mark-elements .ensures)
 
 same-length-10 : tie.Need-same-length-10
@@ -123,8 +122,8 @@ mark-by-entries-spec =
     same-length-4
     returns
     mark-elements-requires
-    cast-t41
-    cast-t42
+    cast-t39
+    cast-t40
     enum-known-number
     refuse-requires-2
     same-length-5

@@ -1,10 +1,9 @@
 -- `mark_report`: the rule's refusal first, then what `mark_by_entries` says of its entries. Assumes nothing.
-use Prim.Native.Nat.{ℕ}
+use Prim.Native.Nat.{ℕ, _*_}
 use mathlib.Core.Path.{ap, sym, _∙_}
 use lib.ListN.{length-replicate}
 use Rattle.terms.specs.Answer.{placeOf}
 use Rattle.terms.specs.Limits.{entriesMost}
-use Rattle.layout.proofs.LayoutLaws.{filled-length}
 use Rattle.marking.proofs.AnswerLaws.{rule-place, entries-read, marked-refused, marked-accepted}
 use borrow.Author.Needs.{needs}
 use Rattle.marking.proofs.report.mark_report.Statement.{statement}
@@ -16,19 +15,8 @@ read-entries-requires c κs = search needs
 enum-known-entries : tie.Need-enum-known-entries
 enum-known-entries c = search needs
 
-slice-aggregate-mark-by-entries : tie.Need-slice-aggregate-mark-by-entries
-slice-aggregate-mark-by-entries c = filled-length _ _ entriesMost (c .before .before .before .before .read-entries .ensures .kinds-are) (length-replicate {A = ℕ} entriesMost 0)
-
-slice-aggregate-mark-by-entries-2 : tie.Need-slice-aggregate-mark-by-entries-2
-slice-aggregate-mark-by-entries-2 c = filled-length _ _ entriesMost (c .before .before .before .before .before .read-entries .ensures .firsts-are) (length-replicate {A = ℕ} entriesMost 0)
-
-slice-aggregate-mark-by-entries-3 : tie.Need-slice-aggregate-mark-by-entries-3
-slice-aggregate-mark-by-entries-3 c = filled-length _ _ entriesMost (c .before .before .before .before .before .before .read-entries .ensures .seconds-are) (length-replicate {A = ℕ} entriesMost 0)
-
 mark-by-entries-requires : tie.Need-mark-by-entries-requires
-mark-by-entries-requires c κs =
-    let e = entries-read _ _ _ _ (length-replicate {A = ℕ} entriesMost 0) (length-replicate {A = ℕ} entriesMost 0) (length-replicate {A = ℕ} entriesMost 0) (c .before .before .before .before .before .before .before .before .before .before .before .read-entries .ensures) (c .before .before .before .before .before .before .before .before .before .entries .given .1) in
-    (e .table-rule, (e .kinds-room, e .firsts-room, e .seconds-room))
+mark-by-entries-requires c κs = entries-read _ _ (length-replicate {A = ℕ} (3 * entriesMost) 0) (c .before .before .before .before .before .before .before .before .before .read-entries .ensures) (c .before .before .before .before .before .before .before .entries .given .1) .table-rule
 
 enum-known-number : tie.Need-enum-known-number
 enum-known-number c = search needs
@@ -53,7 +41,7 @@ same-length-5 c = search needs
 
 returns : tie.Need-returns
 returns c =
-    let e = entries-read _ _ _ _ (length-replicate {A = ℕ} entriesMost 0) (length-replicate {A = ℕ} entriesMost 0) (length-replicate {A = ℕ} entriesMost 0) (c .before .before .before .before .before .before .before .before .before .before .before .before .before .before .before .before .before .before .before .before .before .before .read-entries .ensures) (c .before .before .before .before .before .before .before .before .before .before .before .before .before .before .before .before .before .before .before .before .entries .given .1) in
+    let e = entries-read _ _ (length-replicate {A = ℕ} (3 * entriesMost) 0) (c .before .before .before .before .before .before .before .before .before .before .before .before .before .before .before .before .before .before .before .before .read-entries .ensures) (c .before .before .before .before .before .before .before .before .before .before .before .before .before .before .before .before .before .before .entries .given .1) in
     marked-accepted _ _ _ _ _ _ _ _ (e .is) (e .table-read) (c .before .before .before .before .before .before .before .before .before .before .mark-by-entries .ensures)
 
 returns-2 : tie.Need-returns-2
@@ -65,9 +53,6 @@ mark-report-spec =
     (tie.spec
     read-entries-requires
     enum-known-entries
-    slice-aggregate-mark-by-entries
-    slice-aggregate-mark-by-entries-2
-    slice-aggregate-mark-by-entries-3
     mark-by-entries-requires
     enum-known-number
     refuse-requires

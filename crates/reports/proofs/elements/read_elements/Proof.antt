@@ -12,8 +12,7 @@ use Rattle.reports.proofs.ReportLaws.{record-sound, label-room, report-
 use Rattle.reports.proofs.elements.read_elements.Statement.{statement}
 use Rattle.reports.proofs.elements.read_elements.Tie as tie
 use Rattle.numbers.proofs.Lists.{over-length}
-use Rattle.reports.proofs.ElementLaws.{WalkMid, opens-size, closes-size, moved, walk-start, walk-turn, walk-ended, walk-refused, read-empty, read-long, end-accepted}
-use Rattle.terms.proofs.AnswerLaws.{refused-not}
+use Rattle.reports.proofs.ElementLaws.{WalkMid, opens-size, closes-size, moved, walk-start, walk-turn, walk-ended, walk-refused, read-empty, read-long}
 
 abbrev Inv-loop : tie.InvT-loop
 Inv-loop report labels₀ levels₀ at₀ depth₀ elements₀ labels levels at depth elements =
@@ -44,7 +43,6 @@ returns c =
       answer = report-empty _ (c .if1 .taken);
       labels-are = read-empty _ _ (c .if1 .taken) .0;
       levels-are = read-empty _ _ (c .if1 .taken) .1;
-      sized = λ n z. refused-not z;
     }
 
 returns-2 : tie.Need-returns-2 Inv-loop μ-loop
@@ -53,7 +51,6 @@ returns-2 c =
       answer = report-long _ (c .if2 .taken);
       labels-are = read-long _ _ (c .if2 .taken) .0;
       levels-are = read-long _ _ (c .if2 .taken) .1;
-      sized = λ n z. refused-not z;
     }
 
 loop-holds : tie.Need-loop-holds Inv-loop μ-loop
@@ -97,7 +94,7 @@ loop-again c =
     let p = c .before .before .before .before .before .put-opened .ensures in (
       _,
       walk-turn _ _ _ m (c .before .before .before .before .before .before .before .before .before .before .before .before .if3 .left) (fine (c .before .before .before .before .before .before .before .before .before .before)) _ k _ _ _ _ _ _ (c .before .before .before .before .before .before .before .before .number-where .ensures .0) (p .0) (p .1)
-          (moved _ (omega (arith, opened c)) (report-opens _ (m .mid) (c .before .before .before .before .before .before .before .before .before .before .before .before .if3 .left) (fine (c .before .before .before .before .before .before .before .before .before .before)) (k ∙ c .if5 .taken))) (omega (arith, m .size)),
+          (moved _ (omega (arith, opened c)) (report-opens _ (m .mid) (c .before .before .before .before .before .before .before .before .before .before .before .before .if3 .left) (fine (c .before .before .before .before .before .before .before .before .before .before)) (k ∙ c .if5 .taken))),
     )
 
 sub-depth : tie.Need-sub-depth Inv-loop μ-loop
@@ -116,7 +113,7 @@ loop-again-2 c =
     let p = c .before .before .before .before .before .put-opened .ensures in (
       _,
       walk-turn _ _ _ m (c .before .before .before .before .before .before .before .before .before .before .before .before .if3 .left) (fine (c .before .before .before .before .before .before .before .before .before .before)) _ k _ _ _ _ _ _ (c .before .before .before .before .before .before .before .before .number-where .ensures .0) (p .0) (p .1)
-          (moved _ (omega (arith, closed c)) (report-closes _ (m .mid) (c .before .before .before .before .before .before .before .before .before .before .before .before .if3 .left) (fine (c .before .before .before .before .before .before .before .before .before .before)) (k ∙ c .if5 .left))) (omega (arith, m .size, report-open _ (m .mid) (c .before .before .before .before .before .before .before .before .before .before .before .before .if3 .left) (fine (c .before .before .before .before .before .before .before .before .before .before)) (k ∙ c .if5 .left))),
+          (moved _ (omega (arith, closed c)) (report-closes _ (m .mid) (c .before .before .before .before .before .before .before .before .before .before .before .before .if3 .left) (fine (c .before .before .before .before .before .before .before .before .before .before)) (k ∙ c .if5 .left))),
     )
 
 same-length : tie.Need-same-length Inv-loop μ-loop
@@ -133,7 +130,6 @@ returns-3 c =
       answer = c .end-of .ensures ∙ report-ends _ (m .mid) (c .before .before .before .before .if1 .left) (c .before .before .before .if2 .left) (c .before .if3 .taken);
       labels-are = t .0;
       levels-are = t .1;
-      sized = λ n z. let e = end-accepted _ _ _ n (sym (c .end-of .ensures) ∙ z) in omega (arith, e .0, e .1, m .size, c .before .if3 .taken);
     }
 
 same-length-3 : tie.Need-same-length-3 Inv-loop μ-loop
@@ -153,7 +149,6 @@ returns-4 c =
       answer = ap (λ (n : ℕ). Refused n (c .before .before .before .loop .at)) f ∙ report-refuses _ (m .mid) (c .before .before .before .before .before .if1 .left) (c .before .before .before .before .if2 .left) (c .before .before .if3 .left) wrong;
       labels-are = t .0;
       levels-are = t .1;
-      sized = λ n z. refused-not z;
     }
 
 pub read-elements-spec : {M : Type 1} → statement M
