@@ -2,7 +2,7 @@
 ghost use Prim.Native.Nat.{_≤_};
 ghost use lib.ListN.{length};
 use crate::line::NONE;
-use evaluate::evaluate::pz_evaluate;
+use evaluate::export::pz_evaluate;
 use judge::judge::put_printout;
 
 pub(crate) fn put_unread() {

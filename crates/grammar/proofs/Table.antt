@@ -12,17 +12,17 @@ use Rattle.rules.specs.Entries.{flat}
 use Rattle.rules.specs.declared.rule.Entry.{Entry}
 use Rattle.rules.proofs.EntryLaws.{flat-length}
 use Rattle.grammar.specs.Rules.{noEntry}
-use Rattle.grammar.specs.Table.{entryIn, tableOf}
+use Rattle.grammar.specs.Table.{entryIn, entriesIn}
 
 module _ (table : List ℕ) where
   -- There are as many entries as asked for.
-  pub table-length : (n : ℕ) → length (tableOf n table) ≡ n
-  unfolding tableOf
+  pub table-length : (n : ℕ) → length (entriesIn n table) ≡ n
+  unfolding entriesIn
   table-length n = listed-length n (entryIn table)
 
   -- Entry i is the one whose numbers stand at 3 i.
-  pub table-at : (n i : ℕ) → i < n → getD (tableOf n table) i noEntry ≡ entryIn table i
-  unfolding tableOf
+  pub table-at : (n i : ℕ) → i < n → getD (entriesIn n table) i noEntry ≡ entryIn table i
+  unfolding entriesIn
   table-at n i l = listed-at n (entryIn table) i noEntry l
 
 -- The same numbers are the same entry.
@@ -45,8 +45,8 @@ flat-at (e ∷ es) (suc i) l =
     ∙ flat-at es i (le-of-suc-le-suc l)
 
 -- Entries whose numbers were put into a table with room for them are found there.
-pub table-of-flat : (es : List Entry) (table : List ℕ) → 3 * length es ≤ length table → tableOf (length es) (over (flat es) table) ≡ es
-unfolding tableOf
+pub table-of-flat : (es : List Entry) (table : List ℕ) → 3 * length es ≤ length table → entriesIn (length es) (over (flat es) table) ≡ es
+unfolding entriesIn
 table-of-flat es table h = listed-only (length es) (entryIn (over (flat es) table)) es noEntry refl (λ i l. there i l ∙ flat-at es i l)
   where
     at : (i : ℕ) → i < 3 * length es → getD (over (flat es) table) i 0 ≡ getD (flat es) i 0

@@ -11,5 +11,5 @@ abbrev pub entryIn : List ℕ → ℕ → Entry
 entryIn table i = record { kind = getD table (3 * i) 0; a = getD table (3 * i + 1) 0; b = getD table (3 * i + 2) 0 }
 
 -- The first n entries that a table holds.
-unfoldable pub tableOf : ℕ → List ℕ → List Entry
-tableOf n table = listed n (entryIn table)
+unfoldable pub entriesIn : ℕ → List ℕ → List Entry
+entriesIn n table = listed n (entryIn table)

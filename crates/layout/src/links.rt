@@ -3,7 +3,7 @@ ghost use mathlib.Core.Path.{_≡_};
 ghost use lib.ListN.{length};
 ghost use Rattle.grammar.specs.Legal.{LegalLevels};
 ghost use Rattle.layout.specs.Links.{Linked};
-use crate::columns::wide;
+use numbers::bytes::wide;
 
 // A place for each level, the one above the first and the one below the last.
 const HELD: usize = 66;

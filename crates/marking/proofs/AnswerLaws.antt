@@ -17,7 +17,7 @@ use Rattle.terms.specs.declared.answer.Answer.{Answer}
 use Rattle.terms.specs.declared.answer.Answer.the-variants.{Accepted, Refused}
 use Rattle.rules.specs.declared.rule.Entry.{Entry}
 use Rattle.terms.specs.Limits.{elementsMost, entriesMost, reportMost}
-use Rattle.grammar.specs.Table.{tableOf}
+use Rattle.grammar.specs.Table.{entriesIn}
 use Rattle.grammar.specs.Rules.{RuleEntries}
 use Rattle.grammar.proofs.Table.{table-of-flat}
 use Rattle.grammar.proofs.WhenRule.{rule-answer-sound}
@@ -232,8 +232,8 @@ both-taken rule report room z = go (ruleAnswer rule) (reportAnswer report) (ltb 
 -- The table of an accepted rule: its n entries.
 pub record EntriesRead (rule : List ℕ) (n : ℕ) (table : List ℕ) : Type 0 where
   pub is : Accepted n ≡ ruleAnswer rule
-  pub table-read : tableOf n table ≡ entriesOf rule
-  pub table-rule : RuleEntries (tableOf n table)
+  pub table-read : entriesIn n table ≡ entriesOf rule
+  pub table-rule : RuleEntries (entriesIn n table)
 
 pub entries-read : (rule table : List ℕ) {r : Answer} {n : ℕ} {last : List ℕ} → length table ≡ 3 * entriesMost → EntriesTaken rule table r last
     → r ≡ Accepted n → EntriesRead rule n last
@@ -241,7 +241,7 @@ entries-read rule table {r} {n} {last} room f e =
     let is : Accepted n ≡ ruleAnswer rule = sym e ∙ f .answer in
     let held : last ≡ over (flat (entriesOf rule)) table = rw (entries-taken-all rule n is) at (f .table-is) in
     let count : length (entriesOf rule) ≡ n = entries-count rule ∙ ap countOf (sym is) in
-    let read : tableOf n last ≡ entriesOf rule = rw (held, ← count) (table-of-flat (entriesOf rule) table (omega (arith, entries-few rule, entries-count rule))) in
+    let read : entriesIn n last ≡ entriesOf rule = rw (held, ← count) (table-of-flat (entriesOf rule) table (omega (arith, entries-few rule, entries-count rule))) in
     record { is = is; table-read = read; table-rule = subst RuleEntries (sym read) (rule-entries rule n (sym is)) }
 
 -- The place of a rule's refusal fits where a report's does.

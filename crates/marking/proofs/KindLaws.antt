@@ -32,7 +32,7 @@ use Rattle.meaning.proofs.Words.{words-length, words-at, selected-more}
 use Rattle.layout.specs.Links.{leads, Linked}
 use Rattle.marking.specs.Pass.{Stored, Passed, Room, bitsOf, Marked}
 use Rattle.marking.specs.Steps.{alongMark, columnOf, aheadMark, Nearest}
-use Rattle.grammar.specs.Table.{tableOf, entryIn}
+use Rattle.grammar.specs.Table.{entriesIn, entryIn}
 use Rattle.marking.specs.declared.ahead.AskedAhead.the-variants.{Every}
 use Rattle.layout.proofs.LinkLaws.{ups-all, lefts-all, parent-next}
 use Rattle.marking.proofs.PassLaws.{stored-start, stored-same, passed-start}
@@ -231,13 +231,13 @@ module _ (levels labels : List ℕ) (entries : List Entry) where
 
 -- ---- the entries of a table
 
-module _ (n : ℕ) (table : List ℕ) (rule : RuleEntries (tableOf n table)) where
+module _ (n : ℕ) (table : List ℕ) (rule : RuleEntries (entriesIn n table)) where
   -- A rule in a table has 1 to 64 entries.
   pub table-few : (1 ≤ n) × (n ≤ entriesMost)
   table-few = let e = table-length table n in (omega (arith, rule .nonempty), omega (arith, rule .few))
 
   module _ (i : ℕ) (l : i < n) where
-    within : i < length (tableOf n table)
+    within : i < length (entriesIn n table)
     within = omega (arith, table-length table n)
 
     -- Its numbers are below i, where they are entry numbers.
@@ -247,19 +247,19 @@ module _ (n : ℕ) (table : List ℕ) (rule : RuleEntries (tableOf n table)) whe
 
     -- One entry more.
     pub table-turn : (levels labels : List ℕ) {before ws after : List ℕ}
-        → Stored (length levels) (wordUpTo levels labels (tableOf n table) i) before ws
+        → Stored (length levels) (wordUpTo levels labels (entriesIn n table) i) before ws
         → Passed (length levels) i (means levels labels (shapeOf (getD table (3 * i) 0)) (getD table (3 * i + 1) 0) (bitsOf ws (getD table (3 * i + 1) 0)) (bitsOf ws (getD table (3 * i + 2) 0))) ws after
-        → Stored (length levels) (wordUpTo levels labels (tableOf n table) (i + 1)) before after
+        → Stored (length levels) (wordUpTo levels labels (entriesIn n table) (i + 1)) before after
     table-turn levels labels r p =
-        entry-turn levels labels (tableOf n table) rule i within r (rw (table-at table n i l) p)
+        entry-turn levels labels (entriesIn n table) rule i within r (rw (table-at table n i l) p)
 
   -- After the last entry each word is its element's.
   pub table-end : (levels labels : List ℕ) {before ws : List ℕ} (i : ℕ) → i ≡ n
-      → Stored (length levels) (wordUpTo levels labels (tableOf n table) i) before ws
-      → Stored (length levels) (wordOf (tableOf n table) levels labels) before ws
+      → Stored (length levels) (wordUpTo levels labels (entriesIn n table) i) before ws
+      → Stored (length levels) (wordOf (entriesIn n table) levels labels) before ws
   unfolding wordOf
   table-end levels labels i e r =
-      stored-same (length levels) _ (λ s l. ap (λ (k : ℕ). wordUpTo levels labels (tableOf n table) k s)
+      stored-same (length levels) _ (λ s l. ap (λ (k : ℕ). wordUpTo levels labels (entriesIn n table) k s)
       (e ∙ sym (table-length table n))) r
 
 -- ---- counting

@@ -14,7 +14,7 @@ use crate::word::bit_where;
 use crate::word::put_bit;
 use crate::word::put_number;
 use crate::word::with_bit;
-use layout::columns::wide;
+use numbers::bytes::wide;
 ghost use Rattle.numbers.specs.Bits.{bitAt, wordBits};
 
 // What is asked by turns of the elements ahead: a mark at the end of a way (kinds 10 and 12), at every

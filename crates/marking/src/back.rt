@@ -10,7 +10,7 @@ ghost use Rattle.marking.specs.Pass.{Passed, Room, bitsOf};
 ghost use Rattle.marking.specs.Steps.{backStep, alongMark};
 use crate::word::bit_where;
 use crate::word::put_number;
-use layout::columns::wide;
+use numbers::bytes::wide;
 ghost use Rattle.numbers.specs.Bits.{bit, bitAt, wordBits};
 
 // As a number, whether the word w has bit b, or bit a and, where `there`, the word v bit i.

@@ -7,7 +7,7 @@ ghost use Rattle.grammar.specs.Rules.{RuleEntries};
 ghost use Rattle.meaning.specs.Marks.{selected};
 ghost use Rattle.layout.specs.Links.{Linked};
 ghost use Rattle.marking.specs.Pass.{Stored, Marked};
-ghost use Rattle.grammar.specs.Table.{tableOf};
+ghost use Rattle.grammar.specs.Table.{entriesIn};
 ghost use Rattle.terms.specs.Limits.{entriesMost};
 use crate::entry::mark_entries;
 use crate::word::bit_at;
@@ -51,11 +51,11 @@ pub(crate) fn mark_elements<'a>(
     lefts: &'a [u16],
     marks: &mut [u64],
 ) -> usize
-    requires { ⌜ RuleEntries (tableOf entries (now table)) ⌝ }
+    requires { ⌜ RuleEntries (entriesIn entries (now table)) ⌝ }
     requires { ⌜ LegalLevels (take n (now levels)) ⌝ }
     requires { ⌜ Linked (take n (now levels)) (take n (now ups)) (take n (now lefts)) ⌝ }
     requires { ⌜ (n ≤ length (now labels)) × (n ≤ length (now levels)) × (n ≤ length (now ups)) × (n ≤ length (now lefts)) × (n ≤ length (now marks)) ⌝ }
-    ensures { λ r. ⌜ Marked (tableOf entries (now (table .entry))) (take n (now (levels .entry))) (take n (now (labels .entry))) (now (marks .entry)) r (now (marks .exit)) ⌝ }
+    ensures { λ r. ⌜ Marked (entriesIn entries (now (table .entry))) (take n (now (levels .entry))) (take n (now (labels .entry))) (now (marks .entry)) r (now (marks .exit)) ⌝ }
 {
     clear(marks, n);
     mark_entries(

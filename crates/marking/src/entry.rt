@@ -11,13 +11,13 @@ ghost use Rattle.meaning.specs.Marks.{means, wordOf};
 ghost use Rattle.layout.specs.Links.{leads, Linked};
 ghost use Rattle.marking.specs.Pass.{Passed, Stored, Room, bitsOf};
 ghost use Rattle.marking.specs.Steps.{alongMark, columnOf};
-ghost use Rattle.grammar.specs.Table.{tableOf};
+ghost use Rattle.grammar.specs.Table.{entriesIn};
 use crate::ahead::AskedAhead;
 use crate::ahead::gather_pass;
 use crate::ahead::turn_pass;
 use crate::back::back_pass;
 use crate::local::local_pass;
-use layout::columns::wide;
+use numbers::bytes::wide;
 use rules::table::ENTRY_PLACES;
 use terms::kind::Axis;
 use terms::kind::Shape;
@@ -93,12 +93,12 @@ pub(crate) fn mark_entries<'a>(
     lefts: &'a [u16],
     marks: &mut [u64],
 )
-    requires { ⌜ RuleEntries (tableOf entries (now table)) ⌝ }
+    requires { ⌜ RuleEntries (entriesIn entries (now table)) ⌝ }
     requires { ⌜ LegalLevels (now levels) ⌝ }
     requires { ⌜ Linked (now levels) (now ups) (now lefts) ⌝ }
     requires { ⌜ length (now labels) ≡ length (now levels) ⌝ }
     requires { ⌜ Room (length (now levels)) 0 (now marks) ⌝ }
-    ensures { λ _. ⌜ Stored (length (now (levels .entry))) (wordOf (tableOf entries (now (table .entry))) (now (levels .entry)) (now (labels .entry))) (now (marks .entry)) (now (marks .exit)) ⌝ }
+    ensures { λ _. ⌜ Stored (length (now (levels .entry))) (wordOf (entriesIn entries (now (table .entry))) (now (levels .entry)) (now (labels .entry))) (now (marks .entry)) (now (marks .exit)) ⌝ }
 {
     let mut i: usize = 0;
     while i < entries {

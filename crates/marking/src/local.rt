@@ -9,7 +9,7 @@ ghost use Rattle.meaning.specs.Marks.{meansHere};
 ghost use Rattle.marking.specs.Pass.{Passed, Room, bitsOf};
 ghost use Rattle.marking.specs.Steps.{gateMark};
 use crate::word::put_bit;
-use layout::columns::wide;
+use numbers::bytes::wide;
 use terms::kind::Local;
 ghost use Rattle.numbers.specs.Bits.{bitAt, wordBits};
 

@@ -2,7 +2,7 @@
 ghost use mathlib.Core.Path.{_≡_};
 ghost use Prim.Native.Nat.{_≤_};
 ghost use lib.ListN.{length};
-ghost use Rattle.grammar.specs.Table.{tableOf};
+ghost use Rattle.grammar.specs.Table.{entriesIn};
 ghost use Rattle.grammar.specs.Rules.{RuleEntries};
 ghost use Rattle.terms.specs.Limits.{reportMost};
 ghost use Rattle.terms.specs.declared.answer.Answer.the-variants.{Refused};
@@ -55,8 +55,8 @@ fn mark_by_entries(
     lefts: &mut [u16],
     marks: &mut [u64],
 ) -> Evaluation
-    requires { ⌜ RuleEntries (tableOf entries (now table)) ⌝ }
-    ensures { λ r. ⌜ MarkedBy (tableOf entries (now (table .entry))) (now (report .entry)) (now (labels .entry)) (now (levels .entry)) (now (ups .entry)) (now (lefts .entry)) (now (marks .entry)) r (now (labels .exit)) (now (levels .exit)) (now (ups .exit)) (now (lefts .exit)) (now (marks .exit)) ⌝ }
+    requires { ⌜ RuleEntries (entriesIn entries (now table)) ⌝ }
+    ensures { λ r. ⌜ MarkedBy (entriesIn entries (now (table .entry))) (now (report .entry)) (now (labels .entry)) (now (levels .entry)) (now (ups .entry)) (now (lefts .entry)) (now (marks .entry)) r (now (labels .exit)) (now (levels .exit)) (now (ups .exit)) (now (lefts .exit)) (now (marks .exit)) ⌝ }
 {
     match lay_out(report, labels, levels, ups, lefts) {
         Answer::Accepted(n) => {

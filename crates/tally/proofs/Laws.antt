@@ -9,8 +9,8 @@ use mathlib.Core.Logic.{_⊎_, inl, inr, ⊎-elim}
 use borrow.Author.Tests.{eqb-true, eqb-false}
 use lib.Dec.{eqb}
 use Rattle.tally.specs.Tally.{tallyRefused, risen, Tallied}
-use Rattle.tally.specs.declared.Tally.{Tally}
-use Rattle.tally.specs.declared.Counted.{Counted}
+use Rattle.tally.specs.declared.export.Tally.{Tally}
+use Rattle.tally.specs.declared.export.Counted.{Counted}
 
 -- The tally is full: seen is the largest number of 32 bits.
 abbrev pub Full : Tally → Type 0

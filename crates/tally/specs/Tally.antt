@@ -5,7 +5,7 @@ use Prim.Native.Nat.{ℕ, _+_}
 use mathlib.Core.Path.{_≡_}
 use mathlib.Core.Bool.{Bool, cond, not, _||_}
 use lib.Dec.{eqb}
-use Rattle.tally.specs.declared.Tally.{Tally}
+use Rattle.tally.specs.declared.export.Tally.{Tally}
 
 -- The tally is full, or seen is not the sum of the others: the exact sum, of natural numbers.
 unfoldable pub tallyRefused : Tally → Bool

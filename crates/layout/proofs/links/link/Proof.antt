@@ -15,7 +15,7 @@ abbrev μ-loop : tie.MeasureT-loop
 
 -- The level in hand is at most 63, and there are at most 4,096 elements.
 low : (c : tie.After-wide Inv-loop μ-loop) → c .wide .result ≤ 63
-low c = omega (arith, c .wide .ensures, c .before .before .before .before .before .before .before .pre .0 .low (c .before .before .before .loop .s) (c .before .before .loop-test .taken))
+low c = omega (arith, c .wide .ensures .0, c .before .before .before .before .before .before .before .pre .0 .low (c .before .before .before .loop .s) (c .before .before .loop-test .taken))
 
 loop-holds : tie.Need-loop-holds Inv-loop μ-loop
 loop-holds c = more-start _ _ _ (omega arith) (omega arith)
@@ -90,7 +90,7 @@ loop-less : tie.Need-loop-less Inv-loop μ-loop
 loop-less c = omega arith
 
 loop-again : tie.Need-loop-again Inv-loop μ-loop
-loop-again c = rw (c .wide .ensures) (more-turn-at (c .before .before .before .before .before .before .before .pre .0) (c .before .before .before .loop .inv) (c .before .before .loop-test .taken) _ _ _ (omega arith) (omega arith) (omega arith))
+loop-again c = rw (c .wide .ensures .0) (more-turn-at (c .before .before .before .before .before .before .before .pre .0) (c .before .before .before .loop .inv) (c .before .before .loop-test .taken) _ _ _ (omega arith) (omega arith) (omega arith))
 
 same-length : tie.Need-same-length Inv-loop μ-loop
 same-length c = search needs

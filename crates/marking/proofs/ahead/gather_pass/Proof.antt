@@ -36,19 +36,19 @@ bit-where-requires : tie.Need-bit-where-requires Inv-loop μ-loop
 bit-where-requires c κs = omega arith
 
 mul-put-number : tie.Need-mul-put-number Inv-loop μ-loop
-mul-put-number c = omega (arith, c .before .before .wide .ensures, c .before .before .before .before .before .before .before .before .pre .1 .1 (c .before .before .before .before .before .loop .s) (c .before .before .before .before .loop-test .taken))
+mul-put-number c = omega (arith, c .before .before .wide .ensures .0, c .before .before .before .before .before .before .before .before .pre .1 .1 (c .before .before .before .before .before .loop .s) (c .before .before .before .before .loop-test .taken))
 
 slice-read-put-number : tie.Need-slice-read-put-number Inv-loop μ-loop
-slice-read-put-number c = omega (arith, c .before .before .before .wide .ensures, c .before .before .before .before .before .before .before .before .before .pre .1 .1 (c .before .before .before .before .before .before .loop .s) (c .before .before .before .before .before .loop-test .taken))
+slice-read-put-number c = omega (arith, c .before .before .before .wide .ensures .0, c .before .before .before .before .before .before .before .before .before .pre .1 .1 (c .before .before .before .before .before .before .loop .s) (c .before .before .before .before .before .loop-test .taken))
 
 put-number-requires : tie.Need-put-number-requires Inv-loop μ-loop
 put-number-requires c κs = (omega arith, c .before .bit-where .ensures .1)
 
 mul-marks : tie.Need-mul-marks Inv-loop μ-loop
-mul-marks c = omega (arith, c .before .before .before .before .wide .ensures, c .before .before .before .before .before .before .before .before .before .before .pre .1 .1 (c .before .before .before .before .before .before .before .loop .s) (c .before .before .before .before .before .before .loop-test .taken))
+mul-marks c = omega (arith, c .before .before .before .before .wide .ensures .0, c .before .before .before .before .before .before .before .before .before .before .pre .1 .1 (c .before .before .before .before .before .before .before .loop .s) (c .before .before .before .before .before .before .loop-test .taken))
 
 slice-write-marks : tie.Need-slice-write-marks Inv-loop μ-loop
-slice-write-marks c = omega (arith, c .before .before .before .before .wide .ensures, c .before .before .before .before .before .before .before .before .before .before .pre .1 .1 (c .before .before .before .before .before .before .before .loop .s) (c .before .before .before .before .before .before .loop-test .taken))
+slice-write-marks c = omega (arith, c .before .before .before .before .wide .ensures .0, c .before .before .before .before .before .before .before .before .before .before .pre .1 .1 (c .before .before .before .before .before .before .before .loop .s) (c .before .before .before .before .before .before .loop-test .taken))
 
 add-s : tie.Need-add-s Inv-loop μ-loop
 add-s c = omega arith
@@ -62,7 +62,7 @@ loop-again c =
     let pre = c .before .before .before .before .before .before .before .before .before .before .pre in
     let t = c .before .before .before .before .before .before .loop-test .taken in (
       omega arith,
-      rw (c .put-number .ensures, c .before .before .bit-where .ensures .0, c .before .before .before .before .wide .ensures)
+      rw (c .put-number .ensures, c .before .before .bit-where .ensures .0, c .before .before .before .before .wide .ensures .0)
           (gather-turn _ _ _ (pre .1 .0) (pre .0) (l .s) t (pre .1 .1 (l .s) t) (l .inv .1)),
     )
 

@@ -51,19 +51,19 @@ given-at-requires : tie.Need-given-at-requires Inv-loop μ-loop
 given-at-requires c κs = omega arith
 
 mul-put-bit : tie.Need-mul-put-bit Inv-loop μ-loop
-mul-put-bit c = omega (arith, c .before .wide .ensures, c .before .before .before .before .before .before .before .before .before .before .pre .1 .1 .0 (c .before .before .before .before .before .before .before .loop .t - 1) (omega arith))
+mul-put-bit c = omega (arith, c .before .wide .ensures .0, c .before .before .before .before .before .before .before .before .before .before .pre .1 .1 .0 (c .before .before .before .before .before .before .before .loop .t - 1) (omega arith))
 
 slice-read-put-bit : tie.Need-slice-read-put-bit Inv-loop μ-loop
-slice-read-put-bit c = simp length-set (omega (arith, c .before .before .wide .ensures, c .before .before .before .before .before .before .before .before .before .before .before .pre .1 .1 .0 (c .before .before .before .before .before .before .before .before .loop .t - 1) (omega arith)))
+slice-read-put-bit c = simp length-set (omega (arith, c .before .before .wide .ensures .0, c .before .before .before .before .before .before .before .before .before .before .before .pre .1 .1 .0 (c .before .before .before .before .before .before .before .before .loop .t - 1) (omega arith)))
 
 put-bit-requires : tie.Need-put-bit-requires Inv-loop μ-loop
 put-bit-requires c κs = omega arith
 
 mul-marks-2 : tie.Need-mul-marks-2 Inv-loop μ-loop
-mul-marks-2 c = omega (arith, c .before .before .before .wide .ensures, c .before .before .before .before .before .before .before .before .before .before .before .before .pre .1 .1 .0 (c .before .before .before .before .before .before .before .before .before .loop .t - 1) (omega arith))
+mul-marks-2 c = omega (arith, c .before .before .before .wide .ensures .0, c .before .before .before .before .before .before .before .before .before .before .before .before .pre .1 .1 .0 (c .before .before .before .before .before .before .before .before .before .loop .t - 1) (omega arith))
 
 slice-write-marks-2 : tie.Need-slice-write-marks-2 Inv-loop μ-loop
-slice-write-marks-2 c = simp length-set (omega (arith, c .before .before .before .wide .ensures, c .before .before .before .before .before .before .before .before .before .before .before .before .pre .1 .1 .0 (c .before .before .before .before .before .before .before .before .before .loop .t - 1) (omega arith)))
+slice-write-marks-2 c = simp length-set (omega (arith, c .before .before .before .wide .ensures .0, c .before .before .before .before .before .before .before .before .before .before .before .before .pre .1 .1 .0 (c .before .before .before .before .before .before .before .before .before .loop .t - 1) (omega arith)))
 
 loop-less : tie.Need-loop-less Inv-loop μ-loop
 loop-less c = omega arith
@@ -73,7 +73,7 @@ loop-again c =
     let l = c .before .before .before .before .before .before .before .before .before .loop in
     let pre = c .before .before .before .before .before .before .before .before .before .before .before .before .pre in
     let h : l .t - 1 < length (c .before .before .before .before .before .before .before .before .before .before .before .before .args .f .now) = omega arith in
-    rw (c .put-bit .ensures, c .before .before .given-at .ensures, c .before .before .before .before .before .with-bit .ensures, c .before .before .before .before .before .before .own-at .ensures, c .before .before .before .wide .ensures)
+    rw (c .put-bit .ensures, c .before .before .given-at .ensures, c .before .before .before .before .before .with-bit .ensures, c .before .before .before .before .before .before .own-at .ensures, c .before .before .before .wide .ensures .0)
     (ahead-turn _ _ _ _ _ (pre .1 .0) (pre .0 .0) (pre .0 .1) (pre .1 .1 .1) (l .t - 1) h (ahead-before _ _ _ _ _ (omega arith) (l .inv)) (pre .1 .1 .0 (l .t - 1) h))
 
 same-length : tie.Need-same-length Inv-loop μ-loop

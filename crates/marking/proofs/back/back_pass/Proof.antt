@@ -32,10 +32,10 @@ wide-requires : tie.Need-wide-requires Inv-loop μ-loop
 wide-requires c κs = search needs
 
 mul-back-word : tie.Need-mul-back-word Inv-loop μ-loop
-mul-back-word c = omega (arith, c .wide .ensures, c .before .before .before .before .before .before .pre .1 .1 (c .before .before .before .loop .s) (c .before .before .loop-test .taken))
+mul-back-word c = omega (arith, c .wide .ensures .0, c .before .before .before .before .before .before .pre .1 .1 (c .before .before .before .loop .s) (c .before .before .loop-test .taken))
 
 slice-read-back-word : tie.Need-slice-read-back-word Inv-loop μ-loop
-slice-read-back-word c = omega (arith, c .before .wide .ensures, c .before .before .before .before .before .before .before .pre .1 .1 (c .before .before .before .before .loop .s) (c .before .before .before .loop-test .taken))
+slice-read-back-word c = omega (arith, c .before .wide .ensures .0, c .before .before .before .before .before .before .before .pre .1 .1 (c .before .before .before .before .loop .s) (c .before .before .before .loop-test .taken))
 
 mul-back-word-2 : tie.Need-mul-back-word-2 Inv-loop μ-loop
 mul-back-word-2 c = omega arith
@@ -64,7 +64,7 @@ loop-again c =
     let pre = c .before .before .before .before .before .before .before .before .before .pre in
     let t = c .before .before .before .before .before .loop-test .taken in (
       omega arith,
-      rw (c .back-word .ensures, c .before .before .before .wide .ensures)
+      rw (c .back-word .ensures, c .before .before .before .wide .ensures .0)
           (ascent-turn (pre .1 .0) _ (l .s) _ t (back-turn (c .before .before .before .before .before .before .before .before .before .args .f .now) _ _ _ (l .s) (pre .1 .0) (pre .0 .0) (pre .0 .1) t (pre .1 .1 (l .s) t) (l .inv .1)) (l .inv .1)),
     )
 

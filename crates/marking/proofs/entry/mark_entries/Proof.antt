@@ -2,7 +2,7 @@
 use Prim.Native.Nat.{_≤_, _-_}
 use native.Mathlib.Omega.{arith}
 use lib.ListN.{length}
-use Rattle.grammar.specs.Table.{tableOf}
+use Rattle.grammar.specs.Table.{entriesIn}
 use Rattle.marking.specs.Pass.{Stored}
 use Rattle.marking.proofs.KindLaws.{wordUpTo, words-start, words-room, table-few, table-fits, table-turn, table-end}
 use borrow.Author.Needs.{needs}
@@ -11,7 +11,7 @@ use Rattle.marking.proofs.entry.mark_entries.Tie as tie
 
 abbrev Inv-loop : tie.InvT-loop
 Inv-loop entries table labels levels ups lefts marks₀ i₀ marks i =
-    (i ≤ entries) × Stored (length levels) (wordUpTo levels labels (tableOf entries table) i) marks₀ marks
+    (i ≤ entries) × Stored (length levels) (wordUpTo levels labels (entriesIn entries table) i) marks₀ marks
 
 abbrev μ-loop : tie.MeasureT-loop
 μ-loop entries table labels levels ups lefts marks₀ i₀ marks i = entries - i
@@ -72,10 +72,10 @@ mark-entry-requires c κs =
     let p = c .before .before .before .before .before .before .before .before .before .before .before .before .before .before .before .args in
     let q = c .before .before .before .before .before .before .before .before .before .before .before .before .before .before .before .pre in
     let t = c .before .before .before .before .before .before .before .before .loop-test .taken in
-    let row = rw (c .before .before .before .before .before .before .wide .ensures) at (c .before .before .before .before .before .row-of .ensures) in
+    let row = rw (c .before .before .before .before .before .before .wide .ensures .0) at (c .before .before .before .before .before .row-of .ensures) in
     let h = table-few (p .entries) (p .table .now) (q .0) in
     let f = table-fits (p .entries) (p .table .now) (q .0) (l .i) t in
-    rw (c .before .wide3 .ensures, c .before .before .before .wide2 .ensures, row)
+    rw (c .before .wide3 .ensures .0, c .before .before .before .wide2 .ensures .0, row)
     (f, (words-room (p .levels .now) (p .labels .now) _ (q .1 .1 .1 .1) (omega arith) (l .inv .1), (q .1 .0, (q .1 .1 .0, q .1 .1 .1 .0))))
 
 add-i : tie.Need-add-i Inv-loop μ-loop
@@ -90,8 +90,8 @@ loop-again c =
     let p = c .before .before .before .before .before .before .before .before .before .before .before .before .before .before .before .before .before .before .args in
     let q = c .before .before .before .before .before .before .before .before .before .before .before .before .before .before .before .before .before .before .pre in
     let t = c .before .before .before .before .before .before .before .before .before .before .before .loop-test .taken in
-    let row = rw (c .before .before .before .before .before .before .before .before .before .wide .ensures) at (c .before .before .before .before .before .before .before .before .row-of .ensures) in
-    let e = rw (c .before .before .before .before .wide3 .ensures, c .before .before .before .before .before .before .wide2 .ensures, row) at (c .before .before .mark-entry .ensures) in
+    let row = rw (c .before .before .before .before .before .before .before .before .before .wide .ensures .0) at (c .before .before .before .before .before .before .before .before .row-of .ensures) in
+    let e = rw (c .before .before .before .before .wide3 .ensures .0, c .before .before .before .before .before .before .wide2 .ensures .0, row) at (c .before .before .mark-entry .ensures) in
     (omega arith, table-turn (p .entries) (p .table .now) (q .0) (l .i) t (p .levels .now) (p .labels .now) (l .inv .1) e)
 
 same-length : tie.Need-same-length Inv-loop μ-loop

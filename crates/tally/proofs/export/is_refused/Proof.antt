@@ -2,8 +2,8 @@
 use Rattle.tally.specs.Tally.{tallyRefused}
 use mathlib.Core.Path.{refl}
 use borrow.Author.Needs.{needs}
-use Rattle.tally.proofs.is_refused.Statement.{statement}
-use Rattle.tally.proofs.is_refused.Tie as tie
+use Rattle.tally.proofs.export.is_refused.Statement.{statement}
+use Rattle.tally.proofs.export.is_refused.Tie as tie
 
 cast-result : tie.Need-cast-result
 cast-result c = search needs

@@ -42,21 +42,21 @@ use denote.Triple.Clauses.{ensured, lasts}
 use denote.Triple.Table.{entered, cited}
 use denote.Triple.Walked.{says, Stays, stay-ref, stay-none, walkOf, AllGo, goes-none, goes-ref, Walks, ends-at, walked, walk-meets}
 use denote.Exit.{yes}
-use Rattle.tally.specs.declared.Tally.{Tally}
-use Rattle.tally.specs.declared.Counted.{Counted}
+use Rattle.tally.specs.declared.export.Tally.{Tally}
+use Rattle.tally.specs.declared.export.Counted.{Counted}
 use Rattle.tally.specs.Tally.{truthOf, Tallied}
-use Rattle.tally.proofs.Tally as T
-use Rattle.tally.proofs.Tally.Laws as T′
-use Rattle.tally.proofs.Counted as K
-use Rattle.tally.proofs.Counted.Laws as K′
-use Rattle.tally.proofs.count as count
-use Rattle.tally.proofs.count.Symbol as count-def
-use Rattle.tally.proofs.count.Symbol.{name as #tally·count}
-use Rattle.tally.proofs.count.Met as count-thm
-use Rattle.tally.proofs.pz_tally.Key.{name as #tally·pz-tally}
-use Rattle.tally.proofs.pz_tally as own
-use Rattle.tally.proofs.pz_tally.Statement as stated
-use Rattle.tally.proofs.pz_tally.Code as code
+use Rattle.tally.proofs.export.Tally as T
+use Rattle.tally.proofs.export.Tally.Laws as T′
+use Rattle.tally.proofs.export.Counted as K
+use Rattle.tally.proofs.export.Counted.Laws as K′
+use Rattle.tally.proofs.export.count as count
+use Rattle.tally.proofs.export.count.Symbol as count-def
+use Rattle.tally.proofs.export.count.Symbol.{name as #tally·count}
+use Rattle.tally.proofs.export.count.Met as count-thm
+use Rattle.tally.proofs.export.pz_tally.Key.{name as #tally·pz-tally}
+use Rattle.tally.proofs.export.pz_tally as own
+use Rattle.tally.proofs.export.pz_tally.Statement as stated
+use Rattle.tally.proofs.export.pz_tally.Code as code
 
 abbrev Arg : Type 0
 Arg = RefT Tally × (ℕ × Unit {0})
@@ -179,4 +179,4 @@ pz-tally-spec 𝓤 H 𝓜 𝓖 𝓡 =
     entered 𝓤 H (tripleOf 𝓤 H (𝓖 .A) own.signature (own.spec 𝓤 H (𝓖 .A) (𝓜 .mem) (𝓡 .run)))
     (tables 𝓤 H 𝓜 𝓡 code.env .C) (tables 𝓤 H 𝓜 𝓡 code.env .Λ) #tally·pz-tally code.function (code.unfolded 𝓤 H 𝓜 𝓡)
     (meets 𝓤 H (𝓖 .A) (givenOf 𝓤 H 𝓜 𝓖) (𝓜 .mem) (𝓡 .run) (tablesOf 𝓤 H 𝓜 (tables 𝓤 H 𝓜 𝓡 code.env))
-    (cited 𝓤 H (Count 𝓤 H (𝓖 .A) (𝓜 .mem) (𝓡 .run)) 𝓜 𝓡 code.env #tally·count count-def.routine code.calls-tally·count (count-thm.met 𝓤 H 𝓜 𝓖 𝓡)))
+    (cited 𝓤 H (Count 𝓤 H (𝓖 .A) (𝓜 .mem) (𝓡 .run)) 𝓜 𝓡 code.env #tally·count count-def.routine code.calls-tally·export·count (count-thm.met 𝓤 H 𝓜 𝓖 𝓡)))

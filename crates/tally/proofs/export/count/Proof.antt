@@ -4,8 +4,8 @@ use mathlib.Core.Path.{sym, _∙_}
 use Rattle.tally.specs.Tally.{risen}
 use Rattle.tally.proofs.Laws.{refused-not, tallied-refused, tallied-taken}
 use borrow.Author.Needs.{needs}
-use Rattle.tally.proofs.count.Statement.{statement}
-use Rattle.tally.proofs.count.Tie as tie
+use Rattle.tally.proofs.export.count.Statement.{statement}
+use Rattle.tally.proofs.export.count.Tie as tie
 
 is-refused-requires : tie.Need-is-refused-requires
 is-refused-requires c κs = search needs

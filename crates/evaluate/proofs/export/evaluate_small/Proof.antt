@@ -1,13 +1,13 @@
--- `evaluate_middle`: columns of 512 places. Assumes nothing.
+-- `evaluate_small`: columns of 64 places. Assumes nothing.
 use Prim.Native.Nat.{ℕ}
 use native.Mathlib.Omega.{arith}
 use lib.ListN.{length-replicate}
 use Rattle.layout.proofs.LayoutLaws.{room-by-size}
 use Rattle.marking.proofs.AnswerLaws.{marked-evaluated}
-use Rattle.evaluate.specs.Columns.{middleColumns}
+use Rattle.evaluate.specs.Columns.{smallColumns}
 use borrow.Author.Needs.{needs}
-use Rattle.evaluate.proofs.evaluate.evaluate_middle.Statement.{statement}
-use Rattle.evaluate.proofs.evaluate.evaluate_middle.Tie as tie
+use Rattle.evaluate.proofs.export.evaluate_small.Statement.{statement}
+use Rattle.evaluate.proofs.export.evaluate_small.Tie as tie
 
 slice-aggregate-mark-report : tie.Need-slice-aggregate-mark-report
 slice-aggregate-mark-report c = search needs
@@ -29,11 +29,11 @@ same-length c = search needs
 
 returns : tie.Need-returns
 returns c =
-    let l = length-replicate {A = ℕ} middleColumns 0 in
-    marked-evaluated _ _ _ _ _ _ _ (room-by-size _ middleColumns _ _ _ _ l l l l (omega (arith, c .before .before .before .before .before .before .before .before .before .before .before .before .before .before .before .before .pre))) (c .before .before .before .before .before .before .before .mark-report .ensures)
+    let l = length-replicate {A = ℕ} smallColumns 0 in
+    marked-evaluated _ _ _ _ _ _ _ (room-by-size _ smallColumns _ _ _ _ l l l l (omega (arith, c .before .before .before .before .before .before .before .before .before .before .before .before .before .before .before .before .pre))) (c .before .before .before .before .before .before .before .mark-report .ensures)
 
-pub evaluate-middle-spec : {M : Type 1} → statement M
-evaluate-middle-spec =
+pub evaluate-small-spec : {M : Type 1} → statement M
+evaluate-small-spec =
     tie.close
     (tie.spec
     slice-aggregate-mark-report
