@@ -224,7 +224,7 @@ struct pz_evaluation_reply {
  * place, elements and selected 0, and marks as it was.
  * Order: what pz_read_rule gives for the rule, then what pz_read_report gives for the report, then 9
  * where the report has more elements than there are words.
- * Promise: Evaluated (crates/evaluate/specs/Evaluation.antt). */
+ * Promise: Evaluated (crates/marking/specs/Evaluation.antt). */
 struct pz_evaluation_reply pz_evaluate(const uint8_t *rule, size_t rule_len,
                                        const uint8_t *report, size_t report_len,
                                        uint64_t *marks, size_t words);
