@@ -61,7 +61,7 @@ fn put_case(rule: &[u8], report: &[u8], words: usize)
     put_evaluated(rule, report, &mut marks[..words]);
 }
 
-// Puts the record that the program prints.
+// Puts what the program prints.
 fn put_told(input: &[u8]) {
     let mut told = [0u8; 81920];
     let n = put_printout(input, &mut told);

@@ -1,6 +1,6 @@
 -- What each function promises at a cursor, over every stack below it, and of the tree that it read. Callers of the crate use `TreeRead`
 -- alone; the rest need not be believed.
--- Laws: proofs/Words.antt, proofs/Trees.antt, proofs/Read.antt (one result only). Assumes nothing.
+-- Laws: proofs/WordLaws.antt, proofs/TreeLaws.antt, proofs/ReadLaws.antt (one result only). Assumes nothing.
 use Prim.Native.Nat.{ℕ, zero, suc, _+_, _*_, _≤_, _<_}
 use mathlib.Core.Path.{_≡_}
 use mathlib.Core.Bool.{Bool, true, false, _&&_}

@@ -1,5 +1,5 @@
 -- What a reader answers to C: the answer's number, its place and what it counts, as plain numbers. Document 01, "Numbers given back".
--- Laws: proofs/Bounds.antt, proofs/Only.antt. Assumes nothing.
+-- Laws: proofs/Only.antt. Assumes nothing.
 use Rattle.terms.specs.Answer.{numberOf, placeOf, countOf}
 use Rattle.terms.specs.declared.answer.Answer.{Answer}
 use Rattle.records.specs.declared.export.RuleReply.{RuleReply}

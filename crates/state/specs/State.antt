@@ -2,7 +2,7 @@
 -- closed (at 4), two bytes that are zero (at 6), and eight-byte words: presence (at 8), 64 open words (from 16), 64 last words (from
 -- 528). The low byte comes first everywhere.
 -- Shuts out: root closed read from one byte only; a depth or a count that is not tested.
--- Laws: proofs/GoodLaws.antt, proofs/ListedLaws.antt, proofs/StateLaws.antt. Assumes nothing.
+-- Laws: proofs/GoodLaws.antt, proofs/StateLaws.antt. Assumes nothing.
 use Prim.Native.Nat.{ℕ, zero, suc, _+_, _*_, _≤_}
 use mathlib.Core.Path.{_≡_}
 use mathlib.Core.Bool.{Bool, not, _&&_, _||_}

@@ -1,4 +1,4 @@
--- `pz_read_rule` gives the rule reader's answer as numbers: each fits, by proofs/Bounds.antt. Assumes nothing.
+-- `pz_read_rule` gives the rule reader's answer as numbers: each fits, by the laws of `rules` and `reports` on places and counts. Assumes nothing.
 use native.Mathlib.Omega.{arith}
 use mathlib.Core.Path.{ap, sym, _∙_}
 use borrow.Author.Needs.{needs}

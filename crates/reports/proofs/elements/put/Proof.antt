@@ -4,27 +4,21 @@ use borrow.Author.Needs.{needs}
 use Rattle.reports.proofs.elements.put.Statement.{statement}
 use Rattle.reports.proofs.elements.put.Tie as tie
 
--- src/tables.rt:157:21
 cast-column : tie.Need-cast-column
 cast-column c = search needs
 
--- src/tables.rt:157:9
 mul-column : tie.Need-mul-column
 mul-column c = search needs
 
--- src/tables.rt:157:9
 slice-write-column : tie.Need-slice-write-column
 slice-write-column c = search needs
 
--- src/tables.rt:152:1
 same-length : tie.Need-same-length
 same-length c = search needs
 
--- src/tables.rt:152:1
 returns : tie.Need-returns
 returns c = search needs
 
--- src/tables.rt:152:1
 returns-2 : tie.Need-returns-2
 returns-2 c = sym (set-out _ _ _ (c .if1 .left))
 

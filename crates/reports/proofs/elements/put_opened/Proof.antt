@@ -2,27 +2,21 @@ use borrow.Author.Needs.{needs}
 use Rattle.reports.proofs.elements.put_opened.Statement.{statement}
 use Rattle.reports.proofs.elements.put_opened.Tie as tie
 
--- src/tables.rt:175:9
 put-requires : tie.Need-put-requires
 put-requires c κs = search needs
 
--- src/tables.rt:176:9
 put-requires-2 : tie.Need-put-requires-2
 put-requires-2 c κs = search needs
 
--- src/tables.rt:162:1
 same-length : tie.Need-same-length
 same-length c = search needs
 
--- src/tables.rt:162:1
 same-length-2 : tie.Need-same-length-2
 same-length-2 c = search needs
 
--- src/tables.rt:162:1
 returns : tie.Need-returns
 returns c = rw (c .before .before .before .before .before .before .before .before .if1 .taken) (c .before .before .before .before .before .before .put .ensures, c .before .before .put2 .ensures)
 
--- src/tables.rt:162:1
 returns-2 : tie.Need-returns-2
 returns-2 c = search needs
 
