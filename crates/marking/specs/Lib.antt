@@ -1,4 +1,2 @@
--- The marking's promise, and what its passes are. Read Evaluation first; the others are the passes' own.
+-- The marking's promise.
 pub mod Evaluation
-pub mod Pass
-pub mod Steps
