@@ -17,7 +17,7 @@ use Rattle.terms.specs.declared.answer.Answer.{Answer}
 use Rattle.terms.specs.declared.answer.Answer.the-variants.{Accepted, Refused}
 use Rattle.grammar.proofs.WhenRule.{rule-1-iff}
 use Rattle.grammar.proofs.WhenReport.{report-5-iff}
-use Rattle.marking.specs.Evaluation.{withRoom, outcome}
+use Rattle.marking.specs.Evaluation.{shortOfRoom, outcome}
 use Rattle.text.specs.Text.{refusedLine}
 use Rattle.judge.specs.Input.{ruleEnd, ruleIn, reportIn}
 use Rattle.judge.specs.Output.{room, printed, acceptedPrintout, printoutOfBoth, printoutAt, printoutOf}
@@ -31,14 +31,14 @@ module _ (rule report : List ℕ) where
   pub rule-refused-told : (k p : ℕ) → ruleAnswer rule ≡ Refused k p → printoutOfBoth rule report ≡ refusedLine k p
   unfolding printoutOfBoth outcome
   rule-refused-told k p e =
-      ap (λ (a : Answer). printed (inOrder a (withRoom room (reportAnswer report))) (acceptedPrintout rule report)) e
+      ap (λ (a : Answer). printed (inOrder a (shortOfRoom room (reportAnswer report))) (acceptedPrintout rule report)) e
 
   -- A report that is too long is printed so, where the rule is accepted.
   pub report-long-told : (m : ℕ) → ruleAnswer rule ≡ Accepted m → reportMost < length report → printoutOfBoth rule report ≡ refusedLine 5 0
-  unfolding printoutOfBoth outcome withRoom
+  unfolding printoutOfBoth outcome shortOfRoom
   report-long-told m e h =
-      ap (λ (a : Answer). printed (inOrder a (withRoom room (reportAnswer report))) (acceptedPrintout rule report)) e
-      ∙ ap (λ (b : Answer). printed (withRoom room b) (acceptedPrintout rule report)) (report-5-iff report 0 .1 (refl, inr h))
+      ap (λ (a : Answer). printed (inOrder a (shortOfRoom room (reportAnswer report))) (acceptedPrintout rule report)) e
+      ∙ ap (λ (b : Answer). printed (shortOfRoom room b) (acceptedPrintout rule report)) (report-5-iff report 0 .1 (refl, inr h))
 
   -- A rule that is too long is told so, whatever it is.
   pub rule-long-told : ruleMost < length rule → printoutOfBoth rule report ≡ refusedLine 1 0

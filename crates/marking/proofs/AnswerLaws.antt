@@ -28,7 +28,7 @@ use Rattle.meaning.specs.Marks.{words, selected}
 use Rattle.meaning.proofs.Words.{words-length}
 use Rattle.layout.specs.Layout.{leastOf, roomIn, LaidOut}
 use Rattle.layout.proofs.LayoutLaws.{least-within, within-least, laid-room, ElementsLaid, elements-laid}
-use Rattle.marking.specs.Evaluation.{withRoom, evaluationOf, meantWords, outcome, evaluation, wordsWritten, Evaluated, roomFor, ColumnsAfter, ReportMarked, MarkedBy}
+use Rattle.marking.specs.Evaluation.{shortOfRoom, evaluationOf, meantWords, outcome, evaluation, wordsWritten, Evaluated, roomFor, ColumnsAfter, ReportMarked, MarkedBy}
 use Rattle.passes.specs.Pass.{Marked}
 use Rattle.marking.specs.declared.report.Evaluation.{Evaluation}
 use Rattle.marking.specs.declared.report.Marking.{Marking}
@@ -84,7 +84,7 @@ module _ (es : List Entry) {report labels levels ups lefts : List ℕ} (marks : 
   -- The report is refused.
   pub by-refused : {number place : ℕ} → r ≡ Refused number place
       → MarkedBy es report labels levels ups lefts marks (evaluationOf (Refused number place) 0) ls ds us fs marks
-  unfolding withRoom
+  unfolding shortOfRoom
   by-refused {number} {place} e =
       let a : Refused number place ≡ reportAnswer report = sym e ∙ laid .read .answer in
       record {
@@ -99,7 +99,7 @@ module _ (es : List Entry) {report labels levels ups lefts : List ℕ} (marks : 
 
     -- The report is accepted, and there is no room for its elements.
     pub by-short : room < n → MarkedBy es report labels levels ups lefts marks (evaluationOf (Refused 9 0) 0) ls ds us fs marks
-    unfolding withRoom
+    unfolding shortOfRoom
     by-short h =
         record {
           answer = rw (← accepts, lt-ltb (roomFor labels levels ups lefts marks) n (omega arith));
@@ -110,7 +110,7 @@ module _ (es : List Entry) {report labels levels ups lefts : List ℕ} (marks : 
     -- The report is accepted and its elements are marked.
     pub by-room : {k : ℕ} {after : List ℕ} → n ≤ room → Marked es (take n ds) (take n ls) marks k after
         → MarkedBy es report labels levels ups lefts marks (evaluationOf (Accepted n) k) ls ds us fs after
-    unfolding withRoom
+    unfolding shortOfRoom
     by-room {k} {after} h m =
         let o = held marks laid e room is h in
         let q : Marked es (levelsOf report) (labelsOf report) marks k after = rw (o .levels-read, o .labels-read) at m in
@@ -156,7 +156,7 @@ module _ (rule report labels levels ups lefts marks : List ℕ) where
 -- Where the columns have room for the elements of an accepted report, they play no part in the answer.
 outcome-room : (rule report : List ℕ) (columns room : ℕ) → ((n : ℕ) → reportAnswer report ≡ Accepted n → n ≤ columns)
     → outcome rule report (leastOf columns room) ≡ outcome rule report room
-unfolding outcome withRoom
+unfolding outcome shortOfRoom
 outcome-room rule report columns room enough = ap (inOrder (ruleAnswer rule)) (go (reportAnswer report) refl)
   where
     short : (n : ℕ) → n ≤ columns → ltb (leastOf columns room) n ≡ ltb room n
@@ -166,7 +166,7 @@ outcome-room rule report columns room enough = ap (inOrder (ruleAnswer rule)) (g
           | no l ↦ le-ltb (leastOf columns room) n (within-least n columns room h (omega arith)) ∙ sym (le-ltb room n (omega arith))
         ]
 
-    go : (b : Answer) → reportAnswer report ≡ b → withRoom (leastOf columns room) b ≡ withRoom room b
+    go : (b : Answer) → reportAnswer report ≡ b → shortOfRoom (leastOf columns room) b ≡ shortOfRoom room b
     go (Refused k p) e = refl
     go (Accepted n) e = ap (λ (s : Bool). cond s (Refused 9 0) (Accepted n)) (short n (enough n e))
 
@@ -184,8 +184,8 @@ marked-evaluated rule report labels levels ups lefts marks enough m =
 -- ---- number 0
 
 -- No refusal has it.
-room-sound : (room : ℕ) (a : Answer) → Sound a → Sound (withRoom room a)
-unfolding withRoom
+room-sound : (room : ℕ) (a : Answer) → Sound a → Sound (shortOfRoom room a)
+unfolding shortOfRoom
 room-sound room a s = order-sound a (cond (ltb room (countOf a)) (Refused 9 0) a) s (go (ltb room (countOf a)))
   where
     go : (b : Bool) → Sound (cond b (Refused 9 0) a)
@@ -195,7 +195,7 @@ room-sound room a s = order-sound a (cond (ltb room (countOf a)) (Refused 9 0) a
 pub outcome-sound : (rule report : List ℕ) (room : ℕ) → Sound (outcome rule report room)
 unfolding outcome
 outcome-sound rule report room =
-    order-sound (ruleAnswer rule) (withRoom room (reportAnswer report)) (rule-answer-sound rule)
+    order-sound (ruleAnswer rule) (shortOfRoom room (reportAnswer report)) (rule-answer-sound rule)
     (room-sound room (reportAnswer report) (report-answer-sound report))
 
 -- What is known where rule and report are taken and there is room for the elements.
@@ -209,7 +209,7 @@ pub record BothTaken (rule report : List ℕ) (room : ℕ) : Type 0 where
 
 -- Number 0 says so.
 pub both-taken : (rule report : List ℕ) (room : ℕ) → evaluation rule report room .number ≡ 0 → BothTaken rule report room
-unfolding evaluation outcome withRoom
+unfolding evaluation outcome shortOfRoom
 both-taken rule report room z = go (ruleAnswer rule) (reportAnswer report) (ltb room (countOf (reportAnswer report))) refl refl refl z
   where
     go : (a b : Answer) (short : Bool) → ruleAnswer rule ≡ a → reportAnswer report ≡ b → ltb room (countOf (reportAnswer report)) ≡ short

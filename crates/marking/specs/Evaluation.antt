@@ -23,8 +23,8 @@ use Rattle.reports.specs.Elements.{labelsOf, levelsOf}
 use Rattle.numbers.specs.Lists.{over}
 
 -- Row 9, after the report's own rows: there is room for fewer elements than it has.
-unfoldable pub withRoom : (room : ℕ) → Answer → Answer
-withRoom room a = inOrder a (cond (ltb room (countOf a)) (Refused 9 0) a)
+unfoldable pub shortOfRoom : (room : ℕ) → Answer → Answer
+shortOfRoom room a = inOrder a (cond (ltb room (countOf a)) (Refused 9 0) a)
 
 -- What the answer a comes to, as plain numbers: its number and place, how many elements there are, and how many of them are selected.
 -- Refused: elements and selected are 0.
@@ -38,7 +38,7 @@ module _ (rule report : List ℕ) where
 
   -- The order: what the rule reader answers, then what the report reader answers, then 9, there being room for so many elements.
   unfoldable pub outcome : ℕ → Answer
-  outcome room = inOrder (ruleAnswer rule) (withRoom room (reportAnswer report))
+  outcome room = inOrder (ruleAnswer rule) (shortOfRoom room (reportAnswer report))
 
   -- What is answered.
   unfoldable pub evaluation : ℕ → Evaluation
@@ -76,6 +76,6 @@ pub record ReportMarked (rule report labels levels ups lefts marks : List ℕ) (
 
 -- The same once the rule has been read: its entries are es.
 pub record MarkedBy (es : List Entry) (report labels levels ups lefts marks : List ℕ) (r : Evaluation) (labels′ levels′ ups′ lefts′ marks′ : List ℕ) : Type 0 where
-  pub answer : r ≡ evaluationOf (withRoom (roomFor labels levels ups lefts marks) (reportAnswer report)) (selected (length es) (words es (levelsOf report) (labelsOf report)))
-  pub marks-are : marks′ ≡ over (byAnswer (withRoom (roomFor labels levels ups lefts marks) (reportAnswer report)) (words es (levelsOf report) (labelsOf report)) []) marks
+  pub answer : r ≡ evaluationOf (shortOfRoom (roomFor labels levels ups lefts marks) (reportAnswer report)) (selected (length es) (words es (levelsOf report) (labelsOf report)))
+  pub marks-are : marks′ ≡ over (byAnswer (shortOfRoom (roomFor labels levels ups lefts marks) (reportAnswer report)) (words es (levelsOf report) (labelsOf report)) []) marks
   pub laid-out : LaidOut report labels levels ups lefts (reportAnswer report) labels′ levels′ ups′ lefts′

@@ -6,4 +6,5 @@ pub mod ByteLaws
 pub mod TwoBytes
 pub mod BitLaws
 pub mod WithBit
+pub mod Masks
 pub mod Only

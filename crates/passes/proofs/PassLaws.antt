@@ -14,10 +14,10 @@ use lib.ListN.{length, getD, set, length-set}
 use lib.Pow.{low}
 use lib.Seq.{getD-set-same, getD-set-other}
 use Rattle.passes.specs.Pass.{Stored, Passed, Room, bitsOf}
-use Rattle.passes.proofs.WordLaws.{joined-bit}
 use Rattle.terms.specs.Limits.{elementsMost}
 use Rattle.numbers.specs.Bits.{bit, bitAt}
 use Rattle.numbers.proofs.BitLaws.{bit-top, bit-under}
+use Rattle.numbers.proofs.Masks.{joined-bit}
 
 -- The values w, with v at t.
 abbrev pub at-put : {A : Type 0} → (ℕ → A) → (t : ℕ) → A → ℕ → A

@@ -1,3 +1,2 @@
--- What is promised of a typed rule; and what the writer's functions ask and promise.
+-- The promise of the call.
 pub mod Typed
-pub mod Writing

@@ -1,9 +1,9 @@
 -- `until_mark`: the lowest bit of what the machine computes. Assumes nothing.
 use Prim.Native.Nat.{_^_, _/_}
-use Rattle.passes.proofs.WordLaws.{low-until}
 use borrow.Author.Needs.{needs}
 use Rattle.passes.proofs.back.until_mark.Statement.{statement}
 use Rattle.passes.proofs.back.until_mark.Tie as tie
+use Rattle.numbers.proofs.Masks.{low-until}
 
 shr-result : tie.Need-shr-result
 shr-result c = search needs

@@ -1,9 +1,9 @@
 -- `bit_where`: a bit masks all but the lowest bit. Assumes nothing.
 use Prim.Native.Nat.{_^_, _/_}
-use Rattle.passes.proofs.WordLaws.{low-where}
 use borrow.Author.Needs.{needs}
 use Rattle.passes.proofs.word.bit_where.Statement.{statement}
 use Rattle.passes.proofs.word.bit_where.Tie as tie
+use Rattle.numbers.proofs.Masks.{low-where}
 
 cast-result : tie.Need-cast-result
 cast-result c = search needs

@@ -1,8 +1,8 @@
 -- `put_number`: the bit stays within the word. Assumes nothing.
-use Rattle.passes.proofs.WordLaws.{shifted-number}
 use borrow.Author.Needs.{needs}
 use Rattle.passes.proofs.word.put_number.Statement.{statement}
 use Rattle.passes.proofs.word.put_number.Tie as tie
+use Rattle.numbers.proofs.Masks.{shifted-number}
 
 shl-result : tie.Need-shl-result
 shl-result c = search needs

@@ -1,8 +1,8 @@
 -- `with_bit`: a mask keeps the bits below i. Assumes nothing.
-use Rattle.passes.proofs.WordLaws.{one-shifted, masked-bit}
 use borrow.Author.Needs.{needs}
 use Rattle.passes.proofs.word.with_bit.Statement.{statement}
 use Rattle.passes.proofs.word.with_bit.Tie as tie
+use Rattle.numbers.proofs.Masks.{one-shifted, masked-bit}
 
 shl-result : tie.Need-shl-result
 shl-result c = search needs
