@@ -4,11 +4,13 @@ use Prim.Native.Nat.{ℕ, zero, suc, _+_, _*_, _/_, _%_, _^_, _≤_, _<_}
 use native.Mathlib.Nat.{add-zero, zero-add, one-mul, mul-assoc, pow-suc, pow-succ', div-one, div-div-eq-div-mul, div-lt-iff-lt-mul, mod-lt}
 use native.Mathlib.Nat.{div-add-mod'}
 use native.Mathlib.Omega.{arith}
-use mathlib.Core.Path.{_≡_, refl, sym, _∙_}
+use native.Mathlib.Numerals.{add-one}
+use mathlib.Core.Path.{_≡_, refl, sym, ap, subst, _∙_}
 use mathlib.Core.List.{List, [], _∷_}
 use lib.ListN.{length, getD, set, length-set}
-use lib.Seq.{getD-set-same, getD-set-other}
-use Rattle.numbers.specs.Bytes.{Bytes, wordAt, numberPut}
+use lib.Seq.{sets, length-sets, getD-set-same, getD-set-other}
+use Rattle.numbers.specs.Lists.{putAt}
+use Rattle.numbers.specs.Bytes.{Bytes, wordAt, lowBytes, numberPut}
 
 -- ---- parts and bounds
 
@@ -28,31 +30,41 @@ unfolding wordAt
 word-small zero s b at = omega arith
 word-small (suc k) s b at = omega (arith, pow-suc 256 k, b at, word-small k s b (at + 1))
 
+-- ---- a number stored, byte by byte
+
+-- No byte: the string as it was.
+pub put-none : (at v : ℕ) (s : List ℕ) → numberPut zero at v s ≡ s
+unfolding numberPut lowBytes putAt
+put-none at v s = refl
+
+-- One byte more: the lowest, and the others behind it.
+pub put-step : (k at v : ℕ) (s : List ℕ) → numberPut (suc k) at v s ≡ numberPut k (at + 1) (v / 256) (set s at (v % 256))
+unfolding numberPut lowBytes putAt
+put-step k at v s = ap (λ (i : ℕ). sets (set s at (v % 256)) i (lowBytes k (v / 256))) (sym (add-one at))
+
 -- Storing j + k bytes is storing the first j, and then the other k behind them.
 pub put-split : (j k at v : ℕ) (s : List ℕ) → numberPut (j + k) at v s ≡ numberPut k (at + j) (v / 256 ^ j) (numberPut j at v s)
-unfolding numberPut
-put-split zero k at v s = rw (zero-add k, add-zero at, div-one v)
+put-split zero k at v s = rw (zero-add k, add-zero at, div-one v, put-none at v s)
 put-split (suc j) k at v s =
     let e : at + suc j ≡ at + 1 + j = omega arith in
     let n : suc j + k ≡ suc (j + k) = omega arith in
     let d : v / 256 ^ suc j ≡ v / 256 / 256 ^ j = rw (pow-succ' 256 j) (sym (div-div-eq-div-mul v 256 (256 ^ j))) in
-    rw (n, e, d, numberPut) (put-split j k (at + 1) (v / 256) (set s at (v % 256)))
+    rw (n, e, d, put-step (j + k) at v s, put-step j at v s) (put-split j k (at + 1) (v / 256) (set s at (v % 256)))
 
 -- ---- what a store keeps
 
 -- The length.
 pub put-length : (k at v : ℕ) (s : List ℕ) → length (numberPut k at v s) ≡ length s
-unfolding numberPut
-put-length zero at v s = refl
-put-length (suc k) at v s = put-length k (at + 1) (v / 256) (set s at (v % 256)) ∙ length-set s at (v % 256)
+unfolding numberPut putAt
+put-length k at v s = length-sets s at (lowBytes k v)
 
 -- Every byte that is not one of the k.
 put-other : (k at v : ℕ) (s : List ℕ) (i : ℕ) → (at ≤ i → i < at + k → ⊥) → getD (numberPut k at v s) i 0 ≡ getD s i 0
-unfolding numberPut
-put-other zero at v s i n = refl
+put-other zero at v s i n = rw (put-none at v s)
 put-other (suc k) at v s i n =
-    put-other k (at + 1) (v / 256) (set s at (v % 256)) i (λ l m. n (omega arith) (omega arith))
-    ∙ getD-set-other s at i (v % 256) 0 (λ e. n (omega arith) (omega arith))
+    rw (put-step k at v s)
+    (put-other k (at + 1) (v / 256) (set s at (v % 256)) i (λ l m. n (omega arith) (omega arith))
+    ∙ getD-set-other s at i (v % 256) 0 (λ e. n (omega arith) (omega arith)))
 
 -- A number depends on its own bytes only.
 word-same : (j p : ℕ) (s t : List ℕ) → ((i : ℕ) → p ≤ i → i < p + j → getD s i 0 ≡ getD t i 0) → wordAt j s p ≡ wordAt j t p
@@ -75,15 +87,15 @@ set-bytes (y ∷ s) (suc at) x b h (suc i) = set-bytes s at x (λ j. b (suc j)) 
 
 -- A byte string stays one.
 pub put-bytes : (k at v : ℕ) (s : List ℕ) → Bytes s → Bytes (numberPut k at v s)
-unfolding numberPut
-put-bytes zero at v s b = b
-put-bytes (suc k) at v s b = put-bytes k (at + 1) (v / 256) _ (set-bytes s at (v % 256) b (mod-lt v (omega arith)))
+put-bytes zero at v s b = subst Bytes (sym (put-none at v s)) b
+put-bytes (suc k) at v s b =
+    subst Bytes (sym (put-step k at v s)) (put-bytes k (at + 1) (v / 256) _ (set-bytes s at (v % 256) b (mod-lt v (omega arith))))
 
 -- ---- what a store changes
 
 -- The number read where a value is stored is that value, where there is room and the value has no more bytes.
 pub word-put : (k at v : ℕ) (s : List ℕ) → at + k ≤ length s → v < 256 ^ k → wordAt k (numberPut k at v s) at ≡ v
-unfolding wordAt numberPut
+unfolding wordAt
 word-put zero at v s r h = omega arith
 word-put (suc k) at v s r h =
     let t = set s at (v % 256) in
@@ -91,4 +103,4 @@ word-put (suc k) at v s r h =
     put-other k (at + 1) (v / 256) t at (λ l m. omega arith) ∙ getD-set-same s at (v % 256) 0 (omega arith) in
     let room : at + 1 + k ≤ length t = rw length-set (omega arith) in
     let high = word-put k (at + 1) (v / 256) t room (div-lt-iff-lt-mul {k = 256} (omega arith) .1 (omega (arith, pow-suc 256 k))) in
-    omega (arith, low, high, div-add-mod' v 256)
+    rw (put-step k at v s) (omega (arith, low, high, div-add-mod' v 256))

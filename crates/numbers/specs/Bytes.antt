@@ -2,7 +2,8 @@
 -- Laws: proofs/ByteLaws.antt, proofs/TwoBytes.antt. Assumes nothing.
 use Prim.Native.Nat.{ℕ, zero, suc, _+_, _*_, _/_, _%_, _<_}
 use mathlib.Core.List.{List, [], _∷_}
-use lib.ListN.{getD, set}
+use lib.ListN.{getD}
+use Rattle.numbers.specs.Lists.{putAt}
 
 -- The list is a byte string: every number in it is below 256.
 abbrev pub Bytes : List ℕ → Type 0
@@ -17,10 +18,14 @@ wordAt (suc k) s at = getD s at 0 + 256 * wordAt k s (at + 1)
 abbrev pub numberAt : List ℕ → ℕ → ℕ
 numberAt s at = wordAt 2 s at
 
--- The byte string with the k low bytes of a value stored at an offset; every other byte stays.
+-- The k low bytes of a value, the lowest first.
+unfoldable pub lowBytes : (k value : ℕ) → List ℕ
+lowBytes zero v = []
+lowBytes (suc k) v = v % 256 ∷ lowBytes k (v / 256)
+
+-- The byte string with these stored at an offset; every other byte stays.
 unfoldable pub numberPut : (k at value : ℕ) → List ℕ → List ℕ
-numberPut zero at v s = s
-numberPut (suc k) at v s = numberPut k (at + 1) (v / 256) (set s at (v % 256))
+numberPut k at v s = putAt s at (lowBytes k v)
 
 -- The two bytes of a number below 65,536.
 unfoldable pub twoBytes : ℕ → List ℕ

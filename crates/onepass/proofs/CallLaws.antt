@@ -12,7 +12,8 @@ use Rattle.terms.specs.declared.answer.Answer.{Answer}
 use Rattle.terms.specs.declared.answer.Answer.the-variants.{Accepted, Refused}
 use Rattle.rules.specs.declared.rule.Entry.{Entry}
 use Rattle.terms.specs.Answer.{placeOf, countOf, byAnswer, numbered}
-use Rattle.terms.proofs.AnswerLaws.{numbered-by}
+use Rattle.terms.proofs.AnswerLaws.{Sound, order-sound, numbered-sound, numbered-by}
+use Rattle.grammar.proofs.WhenRule.{rule-answer-sound}
 use Rattle.terms.specs.Limits.{ruleMost}
 use Rattle.rules.specs.Rule.{ruleAnswer}
 use Rattle.reports.specs.Tags.{Tag, opens, closes}
@@ -157,3 +158,8 @@ accepted-some rule r n e f = entries-some rule n (sym e ∙ f)
 -- The place of a refused rule fits 32 bits.
 pub refused-place : (rule : List ℕ) (r : Answer) (k p : ℕ) → r ≡ ruleAnswer rule → r ≡ Refused k p → p ≤ ruleMost
 refused-place rule r k p e f = omega (arith, rule-small rule .place-in, ap placeOf (sym e ∙ f))
+
+-- No refusal of a call has number 0.
+pub call-sound : (rule s : List ℕ) (t : Tag) → Sound (callOutcome rule s t)
+unfolding callOutcome
+call-sound rule s t = order-sound (ruleAnswer rule) _ (rule-answer-sound rule) (numbered-sound (callNumber (entriesOf rule) s t) 0)

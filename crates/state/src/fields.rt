@@ -21,6 +21,20 @@ ghost use Rattle.numbers.specs.Bytes.{wordAt};
 // How many bytes a state has.
 pub(crate) const STATE_BYTES: usize = 1040;
 
+// Where its numbers stand: depth, elements, root closed; the presence word; the first open word and the
+// first last word, each word of eight bytes.
+pub(crate) const DEPTH: usize = 0;
+
+pub(crate) const ELEMENTS: usize = 2;
+
+pub(crate) const ROOT: usize = 4;
+
+const PRESENCE: usize = 8;
+
+const OPEN_WORDS: usize = 16;
+
+const LAST_WORDS: usize = 528;
+
 // Whether the state is bad.
 pub(crate) fn bad_state(s: &[u8]) -> bool
     ensures { λ r. ⌜ r ≡ bad (now (s .entry)) ⌝ }
@@ -28,9 +42,9 @@ pub(crate) fn bad_state(s: &[u8]) -> bool
     if s.len() != STATE_BYTES {
         return true;
     }
-    let depth = number_at(s, 0);
-    let elements = number_at(s, 2);
-    let root = number_at(s, 4);
+    let depth = number_at(s, DEPTH);
+    let elements = number_at(s, ELEMENTS);
+    let root = number_at(s, ROOT);
     (LEVELS_MOST < depth)
         | (elements < depth)
         | (ELEMENTS_MOST < elements)
@@ -47,7 +61,7 @@ pub(crate) fn parent_word(s: &[u8], d: usize) -> u64
     if d == 0 {
         0
     } else {
-        word_at(s, 16 + 8 * (d - 1))
+        word_at(s, OPEN_WORDS + 8 * (d - 1))
     }
 }
 
@@ -56,8 +70,12 @@ pub(crate) fn sibling_word(s: &[u8], d: usize) -> u64
     requires { ⌜ (length (now s) ≡ stateSize) × (d < levelsMost) ⌝ }
     ensures { λ r. ⌜ r ≡ cond (bitAt (presenceIn (now (s .entry))) d) (wordAt 8 (now (s .entry)) (lastPlace d)) 0 ⌝ }
 {
-    let last = word_at(s, 528 + 8 * d);
-    if bit_at(word_at(s, 8), d) { last } else { 0 }
+    let last = word_at(s, LAST_WORDS + 8 * d);
+    if bit_at(word_at(s, PRESENCE), d) {
+        last
+    } else {
+        0
+    }
 }
 
 // Writes zeros.
@@ -87,11 +105,11 @@ pub(crate) fn store_opening(s: &mut [u8], d: usize, elements: usize, w: u64)
     requires { ⌜ (length (now s) ≡ stateSize) × (d < levelsMost) × (elements < elementsMost) ⌝ }
     ensures { λ _. ⌜ now (s .exit) ≡ openedBytes d elements w (now (s .entry)) ⌝ }
 {
-    let presence = word_at(s, 8);
-    put_word(s, 8, cleared_below(presence, d));
-    put_word(s, 16 + 8 * d, w);
-    put_number(s, 0, d + 1);
-    put_number(s, 2, elements + 1);
+    let presence = word_at(s, PRESENCE);
+    put_word(s, PRESENCE, cleared_below(presence, d));
+    put_word(s, OPEN_WORDS + 8 * d, w);
+    put_number(s, DEPTH, d + 1);
+    put_number(s, ELEMENTS, elements + 1);
 }
 
 // Root closed after a closing that leaves depth d: set, if nothing is open.
@@ -106,11 +124,11 @@ pub(crate) fn store_closing(s: &mut [u8], d: usize)
     requires { ⌜ (length (now s) ≡ stateSize) × (d < levelsMost) ⌝ }
     ensures { λ _. ⌜ now (s .exit) ≡ closedBytes d (now (s .entry)) ⌝ }
 {
-    let w = word_at(s, 16 + 8 * d);
-    let presence = word_at(s, 8);
-    let root = number_at(s, 4);
-    put_word(s, 8, with_bit(presence, d, true));
-    put_word(s, 528 + 8 * d, w);
-    put_number(s, 0, d);
-    put_number(s, 4, root_after(root, d));
+    let w = word_at(s, OPEN_WORDS + 8 * d);
+    let presence = word_at(s, PRESENCE);
+    let root = number_at(s, ROOT);
+    put_word(s, PRESENCE, with_bit(presence, d, true));
+    put_word(s, LAST_WORDS + 8 * d, w);
+    put_number(s, DEPTH, d);
+    put_number(s, ROOT, root_after(root, d));
 }

@@ -2,6 +2,9 @@
 // other than 0 is a refusal, and then the bytes are as they were.
 ghost use mathlib.Core.Path.{_≡_};
 ghost use Rattle.state.specs.Promises.{WordsRead, StateStarted, StateOpened, StateClosed};
+use crate::fields::DEPTH;
+use crate::fields::ELEMENTS;
+use crate::fields::ROOT;
 use crate::fields::STATE_BYTES;
 use crate::fields::bad_state;
 use crate::fields::clear;
@@ -37,7 +40,7 @@ pub fn words_of(state: &[u8]) -> Words
     if bad_state(state) {
         return no_words();
     }
-    let d = number_at(state, 0);
+    let d = number_at(state, DEPTH);
     if LEVELS_MOST <= d {
         return no_words();
     }
@@ -67,9 +70,9 @@ pub fn open_state(state: &mut [u8], label: usize, w: u64) -> u32
     if bad_state(state) {
         return 11;
     }
-    let d = number_at(state, 0);
-    let elements = number_at(state, 2);
-    let root = number_at(state, 4);
+    let d = number_at(state, DEPTH);
+    let elements = number_at(state, ELEMENTS);
+    let root = number_at(state, ROOT);
     let fault = open_fault(d, elements, root == 1, label);
     if fault != 0 {
         return fault;
@@ -85,7 +88,7 @@ pub fn close_state(state: &mut [u8]) -> u32
     if bad_state(state) {
         return 11;
     }
-    let d = number_at(state, 0);
+    let d = number_at(state, DEPTH);
     let fault = close_fault(d);
     if fault != 0 {
         return fault;

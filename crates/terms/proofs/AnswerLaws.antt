@@ -46,7 +46,7 @@ pub sound-by {ℓ} : {A : Type ℓ} (a : Answer) → Sound a → (x y : A) → b
 sound-by (Accepted n) s x y = refl
 sound-by (Refused number place) s x y = rw (ne-eqb number 0 s)
 
--- The number of what a table answers is the table's, and its place is 0.
+-- The number of what a table answers is the table's.
 pub numbered-number : (number count : ℕ) → numberOf (numbered number count) ≡ number
 unfolding numbered
 numbered-number number count = go (eqb number 0) refl
@@ -54,14 +54,6 @@ numbered-number number count = go (eqb number 0) refl
     go : (b : Bool) → eqb number 0 ≡ b → numberOf (cond b (Accepted count) (Refused number 0)) ≡ number
     go true e = sym (eqb-true number 0 e)
     go false e = refl
-
-pub numbered-place : (number count : ℕ) → placeOf (numbered number count) ≡ 0
-unfolding numbered
-numbered-place number count = go (eqb number 0)
-  where
-    go : (b : Bool) → placeOf (cond b (Accepted count) (Refused number 0)) ≡ 0
-    go true = refl
-    go false = refl
 
 -- What depends on it depends on whether the number is 0.
 pub numbered-by {ℓ} : {A : Type ℓ} (number count : ℕ) (x y : A) → byAnswer (numbered number count) x y ≡ cond (eqb number 0) x y

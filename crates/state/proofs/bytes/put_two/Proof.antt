@@ -1,11 +1,11 @@
 -- `put_two` stores the two bytes. Assumes nothing.
-use mathlib.Core.Path.{refl}
+use mathlib.Core.Path.{sym, _∙_}
 use native.Mathlib.Omega.{arith}
 use lib.ListN.{length-set}
 use borrow.Author.Needs.{needs}
 use Rattle.state.proofs.bytes.put_two.Statement.{statement}
 use Rattle.state.proofs.bytes.put_two.Tie as tie
-use Rattle.numbers.specs.Bytes.{numberPut}
+use Rattle.numbers.proofs.ByteLaws.{put-none, put-step}
 
 cast-s : tie.Need-cast-s
 cast-s c = search needs
@@ -26,8 +26,7 @@ same-length : tie.Need-same-length
 same-length c = search needs
 
 returns : tie.Need-returns
-unfolding numberPut
-returns c = refl
+returns c = sym (put-step 1 _ _ _ ∙ put-step 0 _ _ _ ∙ put-none _ _ _)
 
 pub put-two-spec : {M : Type 1} → statement M
 put-two-spec =
