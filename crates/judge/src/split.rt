@@ -3,7 +3,7 @@ ghost use mathlib.Core.Path.{_≡_};
 ghost use Prim.Native.Nat.{_<_};
 ghost use lib.ListN.{length};
 ghost use Rattle.judge.specs.Input.{ruleEnd, splitOf};
-use numbers::bytes::number_at;
+use numbers::bytes::two_bytes;
 
 // Whether the input has a rule of the length that it says, and where that rule ends.
 pub struct Halves {
@@ -16,7 +16,7 @@ fn rule_end(input: &[u8]) -> usize
     requires { ⌜ 1 < length (now input) ⌝ }
     ensures { λ r. ⌜ r ≡ ruleEnd (now (input .entry)) ⌝ }
 {
-    2 + number_at(input, 0)
+    2 + two_bytes(input[0], input[1])
 }
 
 // Reads the rule's length, and sees whether so many bytes follow.

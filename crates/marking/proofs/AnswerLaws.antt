@@ -29,7 +29,7 @@ use Rattle.meaning.proofs.Words.{words-length}
 use Rattle.layout.specs.Layout.{leastOf, roomIn, LaidOut}
 use Rattle.layout.proofs.LayoutLaws.{least-within, within-least, laid-room, ElementsLaid, elements-laid}
 use Rattle.marking.specs.Evaluation.{shortOfRoom, evaluationOf, meantWords, outcome, evaluation, wordsWritten, Evaluated, roomFor, ColumnsAfter, ReportMarked, MarkedBy}
-use Rattle.passes.specs.Pass.{Marked}
+use Rattle.marking.specs.Pass.{Marked}
 use Rattle.marking.specs.declared.report.Evaluation.{Evaluation}
 use Rattle.marking.specs.declared.report.Marking.{Marking}
 use Rattle.rules.specs.Entries.{EntriesTaken, entriesOf, flat}

@@ -5,10 +5,10 @@ ghost use mathlib.Core.Bool.{cond};
 ghost use Prim.Native.Nat.{_<_};
 ghost use lib.ListN.{set};
 ghost use Rattle.reports.specs.Elements.{ElementsTaken};
+use crate::number::number_where;
 use crate::report::end_of;
 use crate::report::opens_at;
 use crate::report::record_fault;
-use numbers::bytes::number_where;
 use terms::answer::Answer;
 use terms::limits::REPORT_MOST;
 

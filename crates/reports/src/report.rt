@@ -8,7 +8,7 @@ ghost use Rattle.terms.specs.Frame.{kindAt};
 ghost use Rattle.reports.specs.Tags.{opens, closes, tagFault};
 ghost use Rattle.reports.specs.Report.{recordFault, endOf, reportAnswer};
 use crate::elements::read_elements;
-use numbers::bytes::number_at;
+use crate::number::number_at;
 use terms::answer::Answer;
 use terms::limits::ELEMENTS_MOST;
 use terms::limits::LABEL_MOST;

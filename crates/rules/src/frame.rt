@@ -3,7 +3,7 @@ ghost use mathlib.Core.Path.{_≡_};
 ghost use Prim.Native.Nat.{_+_, _≤_};
 ghost use lib.ListN.{length};
 ghost use Rattle.terms.specs.Frame.{frameOf};
-use numbers::bytes::number_at;
+use crate::number::number_at;
 use terms::frame::Frame;
 
 // The record at an offset with 4 bytes or more left, where its kind has the expected length; 0: no

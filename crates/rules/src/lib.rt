@@ -1,4 +1,5 @@
 // Rules: one record as an entry, and the walk that checks a whole rule and fills the table of its entries.
 mod frame;
+mod number;
 pub mod rule;
 pub mod table;

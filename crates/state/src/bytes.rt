@@ -1,9 +1,17 @@
-// Words of eight bytes in a byte string, and what is stored there, the low byte first.
+// Numbers of two, four and eight bytes in a byte string, the low byte first.
 ghost use mathlib.Core.Path.{_≡_};
 ghost use Prim.Native.Nat.{_+_, _≤_, _<_};
 ghost use lib.ListN.{length};
 ghost use Rattle.numbers.specs.Bytes.{wordAt, numberPut};
-use numbers::bytes::number_at;
+use numbers::bytes::two_bytes;
+
+// The number of two bytes at an offset.
+pub(crate) fn number_at(s: &[u8], at: usize) -> usize
+    requires { ⌜ at + 2 ≤ length (now s) ⌝ }
+    ensures { λ r. ⌜ (r ≡ wordAt 2 (now (s .entry)) at) × (r < 65536) ⌝ }
+{
+    two_bytes(s[at], s[at + 1])
+}
 
 fn two_at(s: &[u8], at: usize) -> u64
     requires { ⌜ at + 2 ≤ length (now s) ⌝ }

@@ -2,6 +2,7 @@
 // other than 0 is a refusal, and then the bytes are as they were.
 ghost use mathlib.Core.Path.{_≡_};
 ghost use Rattle.state.specs.Promises.{WordsRead, StateStarted, StateOpened, StateClosed};
+use crate::bytes::number_at;
 use crate::fields::DEPTH;
 use crate::fields::ELEMENTS;
 use crate::fields::ROOT;
@@ -12,7 +13,6 @@ use crate::fields::parent_word;
 use crate::fields::sibling_word;
 use crate::fields::store_closing;
 use crate::fields::store_opening;
-use numbers::bytes::number_at;
 use reports::report::close_fault;
 use reports::report::open_fault;
 use terms::limits::LEVELS_MOST;

@@ -27,7 +27,7 @@ use Rattle.parse.specs.declared.tree.Outcome.the-variants as O
 use Rattle.parse.proofs.HeldLaws.{text-held}
 use Rattle.typing.specs.declared.export.PathReply.{PathReply}
 use Rattle.typing.specs.Typed.{Typed}
-use Rattle.writing.proofs.Whole.{front-is}
+use Rattle.typing.proofs.Whole.{front-is}
 
 -- ---- room
 

@@ -1,2 +1,3 @@
--- The promise of the call.
+-- What is promised of a typed rule; and what the writer's functions ask and promise.
 pub mod Typed
+pub mod Writing

@@ -1,11 +1,11 @@
 // The call as C has it; include/polonezar.h declares it.
 ghost use mathlib.Core.Path.{_≡_};
 ghost use Rattle.typing.specs.Typed.{Typed};
+use crate::write::write_rule;
 use parse::tree::Outcome;
 use parse::tree::ROW_PLACES;
 use parse::tree::read_tree;
 use terms::limits::ENTRIES_MOST;
-use writing::write::write_rule;
 
 // What the call answers: the number, the place, and how many bytes it wrote.
 #[repr(C)]

@@ -1,0 +1,272 @@
+-- The marks of each kind's pass are the meaning's; the words after each entry; the words as the list that is promised.
+-- Assumes nothing.
+use Prim.Native.Nat.{ℕ, pred, _+_, _*_, _-_, _≤_, _<_}
+use native.Mathlib.Decide.{decLt}
+use native.Mathlib.Numerals.{add-one}
+use native.Mathlib.Omega.{arith}
+use mathlib.Core.Path.{_≡_, refl, sym, ap, subst, _∙_}
+use mathlib.Core.Bool.{Bool, true, false, not, xor, _&&_, _||_}
+use mathlib.Core.List.{List}
+use lib.ListN.{length, getD, take}
+use lib.Seq.{ext-getD, take-at, take-suc}
+use Rattle.rules.specs.declared.rule.Entry.{Entry}
+use Rattle.terms.proofs.Rows.{numbers-are}
+use Rattle.grammar.specs.Legal.{LegalLevels}
+use Rattle.grammar.specs.Rules.{noEntry, RuleEntries}
+use Rattle.grammar.proofs.Entries.{formed-kind, formed-entries, formed-a, formed-b}
+use Rattle.numbers.proofs.Tells.{IsTest, test-same}
+use Rattle.terms.specs.declared.kind.Axis.{Axis}
+use Rattle.terms.specs.declared.kind.Axis.the-variants.{Child as child, Parent as parent, Next as next, Previous as previous}
+use Rattle.meaning.specs.Tree.{direction}
+use Rattle.meaning.specs.Links.{link}
+use Rattle.terms.specs.declared.kind.Shape.{Shape}
+use Rattle.terms.specs.declared.kind.Shape.the-variants.{Nothing as nothing, Here as here, SomeAlong as someAlong, UntilAlong as untilAlong, EveryChild as everyChild}
+use Rattle.terms.specs.declared.kind.Local.{Local}
+use Rattle.terms.specs.declared.kind.Numbers.the-variants.{Entries}
+use Rattle.terms.specs.Kinds.{shapeOf, numbersOf, leadsBack}
+use Rattle.meaning.specs.Marks.{meansHere, means, mark, wordOf, words, selected}
+use Rattle.meaning.proofs.Tests.{bool-told}
+use Rattle.meaning.proofs.Reflect.{means-told}
+use Rattle.meaning.proofs.OneStep.{mark-rule, plain}
+use Rattle.meaning.proofs.Words.{words-length, words-at, selected-more}
+use Rattle.layout.specs.Links.{leads, Linked}
+use Rattle.marking.specs.Pass.{Stored, Passed, Room, bitsOf, Marked}
+use Rattle.marking.specs.Steps.{alongMark, columnOf, aheadMark, Nearest}
+use Rattle.grammar.specs.Table.{entriesIn, entryIn}
+use Rattle.marking.specs.declared.ahead.AskedAhead.the-variants.{Every}
+use Rattle.layout.proofs.LinkLaws.{ups-all, lefts-all, parent-next}
+use Rattle.marking.proofs.PassLaws.{stored-start, stored-same, passed-start}
+use Rattle.grammar.proofs.Table.{table-length, table-at}
+use Rattle.terms.specs.Limits.{entriesMost}
+use Rattle.numbers.specs.Lists.{over}
+use Rattle.numbers.proofs.Lists.{over-is, over-length, over-at, over-past}
+use Rattle.numbers.specs.Bits.{bit, bitAt, word, wordBits}
+use Rattle.numbers.proofs.BitLaws.{pred-sub, bit-small, word-bit, word-lt}
+
+-- ---- the table of passes
+
+-- The gates of kinds 1, 3, 4 and 5.
+pub gate-always : (x : Bool) → xor (xor x false && xor x true) true ≡ true
+unfolding xor
+gate-always true = refl
+gate-always false = refl
+
+pub gate-not : (x : Bool) → xor (xor x true && xor x true) false ≡ not x
+unfolding xor
+gate-not true = refl
+gate-not false = refl
+
+pub gate-or : (x y : Bool) → xor (xor x true && xor y true) true ≡ (x || y)
+unfolding xor
+gate-or true true = refl
+gate-or true false = refl
+gate-or false true = refl
+gate-or false false = refl
+
+pub gate-and : (x y : Bool) → xor (xor x false && xor y false) false ≡ (x && y)
+unfolding xor
+gate-and true true = refl
+gate-and true false = refl
+gate-and false true = refl
+gate-and false false = refl
+
+module _ {levels ups lefts : List ℕ} (linked : Linked levels ups lefts) (labels : List ℕ) where
+  -- The column of an axis leads as the axis is found.
+  column-all : (x : Axis) → (length (columnOf x ups lefts) ≡ length levels) × (leads (columnOf x ups lefts) ≡ link levels x)
+  unfolding columnOf link
+  column-all child = (linked .ups-long, ups-all linked)
+  column-all parent = (linked .ups-long, ups-all linked)
+  column-all next = (linked .lefts-long, lefts-all linked)
+  column-all previous = (linked .lefts-long, lefts-all linked)
+
+  column-leads : (x : Axis) (s : ℕ) → s < length levels → getD (columnOf x ups lefts) s 0 ≤ s
+  unfolding columnOf
+  column-leads child = linked .ups-lead .near
+  column-leads parent = linked .ups-lead .near
+  column-leads next = linked .lefts-lead .near
+  column-leads previous = linked .lefts-lead .near
+
+  -- So a pass along it has room where the elements have.
+  pub column-room : (x : Axis) (f : List ℕ) → f ≡ columnOf x ups lefts → {i : ℕ} {ws : List ℕ} → Room (length levels) i ws
+      → Room (length f) i ws × ((s : ℕ) → s < length f → getD f s 0 ≤ s)
+  column-room x f e room = rw (e, column-all x .0) (room, column-leads x)
+
+  -- A pass leaves what a shape means:
+  abbrev Meant : (k : Shape) (a b i : ℕ) (before after : List ℕ) → Type 0
+  Meant k a b i before after = Passed (length levels) i (means levels labels k a (bitsOf before a) (bitsOf before b)) before after
+
+  module _ {k : Shape} {i : ℕ} {before after : List ℕ} (a b : ℕ) where
+    -- along the column of an axis,
+    pub passed-some : (x : Axis) (f : List ℕ) → f ≡ columnOf x ups lefts → k ≡ someAlong x
+        → Passed (length f) i (alongMark false (direction x) (length f) (leads f) (bitsOf before a) (bitsOf before b)) before after
+        → Meant k a b i before after
+    unfolding means alongMark
+    passed-some x f c e r = rw e (rw (c, column-all x .0, column-all x .1) at r)
+
+    pub passed-until : (x : Axis) (f : List ℕ) → f ≡ columnOf x ups lefts → k ≡ untilAlong x
+        → Passed (length f) i (alongMark true (direction x) (length f) (leads f) (bitsOf before a) (bitsOf before b)) before after
+        → Meant k a b i before after
+    unfolding means alongMark
+    passed-until x f c e r = rw e (rw (c, column-all x .0, column-all x .1) at r)
+
+    pub passed-every : k ≡ everyChild
+        → Passed (length ups) i (aheadMark Every (length ups) (leads ups) (bitsOf before a) (bitsOf before b)) before after
+        → Meant k a b i before after
+    unfolding means aheadMark direction leadsBack columnOf
+    passed-every e r = rw e (rw (column-all child .0, column-all child .1) at r)
+
+    -- at the element alone,
+    pub passed-local : (asked : Local) → length labels ≡ length levels → k ≡ here asked
+        → Passed (length labels) i (λ s. meansHere asked a (getD labels s 0) (bitsOf before a s) (bitsOf before b s)) before after
+        → Meant k a b i before after
+    unfolding means
+    passed-local asked q e r = rw e (rw q at r)
+
+  -- and nowhere, by doing nothing.
+  pub passed-nothing : {k : Shape} {i : ℕ} {before : List ℕ} (a b : ℕ) → Room (length levels) i before → k ≡ nothing → Meant k a b i before before
+  unfolding means
+  passed-nothing a b room e = rw e (passed-start room)
+
+  -- Parents are led to from the very next element.
+  pub ups-nearest : LegalLevels levels → Nearest Every ups
+  unfolding Nearest
+  ups-nearest legal = rw (ups-all linked) (parent-next levels legal)
+
+-- ---- the entries
+
+-- A kind asks a and b at elements only.
+means-same : (levels labels : List ℕ) (k : Shape) (l : ℕ) (a a′ b b′ : ℕ → Bool)
+    → ((t : ℕ) → t < length levels → a t ≡ a′ t) → ((t : ℕ) → t < length levels → b t ≡ b′ t) → (s : ℕ) → s < length levels
+    → means levels labels k l a b s ≡ means levels labels k l a′ b′ s
+means-same levels labels k l a a′ b b′ ea eb s h =
+    test-same (means-told levels labels l _ _ a b (λ t m. bool-told (a t)) (λ t m. bool-told (b t)) s h k)
+    (means-told levels labels l (λ t. a t ≡ true) (λ t. b t ≡ true) a′ b′ (λ t m. subst (IsTest (a t ≡ true)) (ea t m) (bool-told (a t)))
+    (λ t m. subst (IsTest (b t ≡ true)) (eb t m) (bool-told (b t))) s h k)
+    (λ x. x, λ x. x)
+
+module _ (levels labels : List ℕ) (entries : List Entry) where
+  -- The marks of the first i entries at an element, as a word.
+  abbrev pub wordUpTo : ℕ → ℕ → ℕ
+  wordUpTo i s = word i (λ j. mark levels labels entries j s)
+
+  abbrev entry : ℕ → Entry
+  entry i = getD entries i noEntry
+
+  -- Over the marks of the entries before it, an entry's row is its mark.
+  row-mark : RuleEntries entries → (i : ℕ) → i < length entries → (ws : List ℕ)
+      → ((s : ℕ) → s < length levels → getD ws s 0 ≡ wordUpTo i s) → (s : ℕ) → s < length levels
+      → means levels labels (shapeOf (entry i .kind)) (entry i .a) (bitsOf ws (entry i .a)) (bitsOf ws (entry i .b)) s ≡ mark levels labels entries i s
+  row-mark rule i l ws e s h =
+      let f = rule .formed i l in
+      rw (mark-rule levels labels entries rule i l)
+      (elim (decLt (entry i .kind) 3) [
+        | yes m ↦ ap (λ (g : ℕ → Bool). g s) (plain levels labels entries (entry i .kind) _ _ _ _ _ (formed-kind i (entry i) f .0) m)
+        | no m ↦
+            let at : (j : ℕ) → j < i → (t : ℕ) → t < length levels → bitsOf ws j t ≡ mark levels labels entries j t =
+            λ j k t q. rw (e t q) (word-bit i j (λ j. mark levels labels entries j t) k) in
+            means-same levels labels (shapeOf (entry i .kind)) (entry i .a) _ _ _ _ (at (entry i .a) (formed-a i (entry i) f (omega arith)))
+            (at (entry i .b) (formed-b i (entry i) f (omega arith))) s h
+      ])
+
+  -- One entry more.
+  entry-turn : RuleEntries entries → (i : ℕ) → i < length entries → {before ws after : List ℕ}
+      → Stored (length levels) (wordUpTo i) before ws
+      → Passed (length levels) i (means levels labels (shapeOf (entry i .kind)) (entry i .a) (bitsOf ws (entry i .a)) (bitsOf ws (entry i .b))) ws after
+      → Stored (length levels) (wordUpTo (i + 1)) before after
+  unfolding word
+  entry-turn rule i l {before} {ws} {after} r p =
+      record {
+        long = p .stored .long ∙ r .long;
+        put = λ s h. p .stored .put s h ∙ rw (add-one i, row-mark rule i l ws (r .put) s h, r .put s h);
+        kept = λ s h. p .stored .kept s h ∙ r .kept s h;
+      }
+
+  -- Before any entry the words are 0, and before entry i they have bits below i only.
+  pub words-start : {before : List ℕ} → Room (length levels) 0 before → Stored (length levels) (wordUpTo 0) before before
+  unfolding word
+  words-start room =
+      stored-same (length levels) _ (λ s l. let h = room .small s l in omega arith) (stored-start (length levels) _)
+
+  pub words-room : {i : ℕ} {before ws : List ℕ} → Room (length levels) 0 before → i < wordBits → Stored (length levels) (wordUpTo i) before ws
+      → Room (length levels) i ws
+  words-room {i} room l r =
+      record {
+        few = room .few;
+        room = omega (arith, room .room, r .long);
+        top = l;
+        small = λ s h. rw (r .put s h) (word-lt i _);
+      }
+
+  -- The words as the list that is promised.
+  words-over : {before after : List ℕ} → length levels ≤ length before
+      → Stored (length levels) (wordOf entries levels labels) before after → after ≡ over (words entries levels labels) before
+  words-over {before} {after} room r =
+      let n = words-length entries levels labels in
+      ext-getD 0 after _ (r .long ∙ sym (over-length (words entries levels labels) before)) (λ s h.
+      elim (decLt s (length levels)) [
+        | yes l ↦
+            r .put s l ∙ sym (words-at entries levels labels s l) ∙ sym (over-at (words entries levels labels) before (omega arith) s (omega arith))
+        | no l ↦ r .kept s (omega arith) ∙ sym (over-past (words entries levels labels) before (omega arith) s (omega arith))
+      ])
+
+  -- The words and their count.
+  marked-of : {before after : List ℕ} (m r : ℕ) → length levels ≤ length before → length entries ≡ m
+      → Stored (length levels) (wordOf entries levels labels) before after → r ≡ selected m (take (length levels) after)
+      → Marked entries levels labels before r after
+  marked-of {before} {after} m r room e w c =
+      let n = words-length entries levels labels in
+      let o = words-over room w in
+      record {
+        marks-are = o;
+        selected-is =
+            c ∙ rw (← e, o, over-is (words entries levels labels) before (omega arith))
+            (ap (selected (length entries)) (take-at (words entries levels labels) _ (length levels) n));
+      }
+
+  -- The same with the number of elements said in another way.
+  pub marked-first : {before after : List ℕ} (m r n : ℕ) → n ≡ length levels → n ≤ length before → length entries ≡ m
+      → Stored (length levels) (wordOf entries levels labels) before after → r ≡ selected m (take n after)
+      → Marked entries levels labels before r after
+  marked-first {before} {after} m r n e room l w c = marked-of m r (omega arith) l w (c ∙ ap (λ (k : ℕ). selected m (take k after)) e)
+
+-- ---- the entries of a table
+
+module _ (n : ℕ) (table : List ℕ) (rule : RuleEntries (entriesIn n table)) where
+  -- A rule in a table has 1 to 64 entries.
+  pub table-few : (1 ≤ n) × (n ≤ entriesMost)
+  table-few = let e = table-length table n in (omega (arith, rule .nonempty), omega (arith, rule .few))
+
+  module _ (i : ℕ) (l : i < n) where
+    within : i < length (entriesIn n table)
+    within = omega (arith, table-length table n)
+
+    -- Its numbers are below i, where they are entry numbers.
+    pub table-fits : numbersOf (shapeOf (getD table (3 * i) 0)) ≡ Entries → (getD table (3 * i + 1) 0 < i) × (getD table (3 * i + 2) 0 < i)
+    table-fits h =
+        formed-entries i (entryIn table i) (rw (table-at table n i l) at (rule .formed i within)) (numbers-are (getD table (3 * i) 0) ∙ h)
+
+    -- One entry more.
+    pub table-turn : (levels labels : List ℕ) {before ws after : List ℕ}
+        → Stored (length levels) (wordUpTo levels labels (entriesIn n table) i) before ws
+        → Passed (length levels) i (means levels labels (shapeOf (getD table (3 * i) 0)) (getD table (3 * i + 1) 0) (bitsOf ws (getD table (3 * i + 1) 0)) (bitsOf ws (getD table (3 * i + 2) 0))) ws after
+        → Stored (length levels) (wordUpTo levels labels (entriesIn n table) (i + 1)) before after
+    table-turn levels labels r p =
+        entry-turn levels labels (entriesIn n table) rule i within r (rw (table-at table n i l) p)
+
+  -- After the last entry each word is its element's.
+  pub table-end : (levels labels : List ℕ) {before ws : List ℕ} (i : ℕ) → i ≡ n
+      → Stored (length levels) (wordUpTo levels labels (entriesIn n table) i) before ws
+      → Stored (length levels) (wordOf (entriesIn n table) levels labels) before ws
+  unfolding wordOf
+  table-end levels labels i e r =
+      stored-same (length levels) _ (λ s l. ap (λ (k : ℕ). wordUpTo levels labels (entriesIn n table) k s)
+      (e ∙ sym (table-length table n))) r
+
+-- ---- counting
+
+-- One word more: its bit is counted, so no more words than were passed.
+pub count-turn : (m s count : ℕ) (ws : List ℕ) → s < length ws → count ≡ selected m (take s ws) → count ≤ s
+    → (count + bit (bitAt (getD ws s 0) (m - 1)) ≡ selected m (take (s + 1) ws)) × (count + bit (bitAt (getD ws s 0) (m - 1)) ≤ s + 1)
+count-turn m s count ws l e h =
+    let p : m - 1 ≡ pred m = pred-sub m in
+    (rw (add-one s, take-suc ws s 0 l, selected-more, e, p), omega (arith, bit-small (bitAt (getD ws s 0) (m - 1))))

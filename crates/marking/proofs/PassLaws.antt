@@ -1,0 +1,159 @@
+-- Laws of the words that a pass stores: one word more, the bits of a word in the midst of a pass, passes from the first element on.
+-- Assumes nothing.
+use Prim.Native.Nat.{ℕ, _+_, _*_, _^_, _%_, _≤_, _<_}
+use native.Mathlib.Decide.{ℕ-discrete, decLt}
+use native.Mathlib.Nat.{zero-mul, zero-add}
+use native.Mathlib.Omega.{arith}
+use mathlib.Core.Path.{_≡_, refl, sym, ap, _∙_, subst}
+use mathlib.Core.Bool.{Bool, false, cond, _&&_, _||_}
+use mathlib.Core.List.{List}
+use borrow.Author.Tests.{lt-ltb, le-ltb, eq-eqb, ne-eqb}
+use lib.Bits.{bitOr}
+use lib.Dec.{ltb, eqb}
+use lib.ListN.{length, getD, set, length-set}
+use lib.Pow.{low}
+use lib.Seq.{getD-set-same, getD-set-other}
+use Rattle.marking.specs.Pass.{Stored, Passed, Room, bitsOf}
+use Rattle.terms.specs.Limits.{elementsMost}
+use Rattle.numbers.specs.Bits.{bit, bitAt}
+use Rattle.numbers.proofs.BitLaws.{bit-top, bit-under}
+use Rattle.numbers.proofs.Masks.{joined-bit}
+
+-- The values w, with v at t.
+abbrev pub at-put : {A : Type 0} → (ℕ → A) → (t : ℕ) → A → ℕ → A
+at-put w t v s = cond (eqb s t) v (w s)
+
+module _ (n : ℕ) (before : List ℕ) where
+  -- Before any store each word is what it was.
+  pub stored-start : Stored n (λ s. getD before s 0) before before
+  stored-start = record { long = refl; put = λ s l. refl; kept = λ s l. refl }
+
+  -- Equal words are stored alike.
+  pub stored-same : {w v : ℕ → ℕ} {after : List ℕ} → ((s : ℕ) → s < n → w s ≡ v s) → Stored n w before after → Stored n v before after
+  stored-same e r = record { long = r .long; put = λ s l. r .put s l ∙ e s l; kept = r .kept }
+
+  -- One store among the first n words.
+  stored-set : {w : ℕ → ℕ} {after : List ℕ} (t v : ℕ) → n ≤ length before → t < n → Stored n w before after
+      → Stored n (at-put w t v) before (set after t v)
+  stored-set {w} {after} t v room l r =
+      record {
+        long = length-set after t v ∙ r .long;
+        put = λ s m.
+            elim (ℕ-discrete s t) [
+              | yes e ↦ rw (e, eq-eqb t t refl) (getD-set-same after t v 0 (omega (arith, r .long)))
+              | no ne ↦ rw (ne-eqb s t ne) (getD-set-other after t s v 0 ne ∙ r .put s m)
+            ];
+        kept = λ s m. getD-set-other after t s v 0 (λ e. omega arith) ∙ r .kept s m;
+      }
+
+-- Words stored over words stored.
+pub stored-after : {n : ℕ} {w v : ℕ → ℕ} {before mid after : List ℕ} → Stored n w before mid → Stored n v mid after → Stored n v before after
+stored-after r q = record { long = q .long ∙ r .long; put = q .put; kept = λ s l. q .kept s l ∙ r .kept s l }
+
+-- The same number of words, said in another way.
+pub stored-count : {n m : ℕ} {w : ℕ → ℕ} {before after : List ℕ} → n ≡ m → Stored n w before after → Stored m w before after
+stored-count {n} {m} {w} {before} {after} e r = subst (λ (k : ℕ). Stored k w before after) e r
+
+-- Words set to 0 one after the other.
+pub clear-start : (before : List ℕ) → Stored 0 (λ s. 0) before before
+clear-start before = record { long = refl; put = λ s l. absurd (omega arith); kept = λ s l. refl }
+
+pub clear-turn : {before after : List ℕ} (k : ℕ) → k < length before → Stored k (λ s. 0) before after
+    → Stored (k + 1) (λ s. 0) before (set after k 0)
+clear-turn {before} {after} k l r =
+    record {
+      long = length-set after k 0 ∙ r .long;
+      put = λ s h.
+          elim (ℕ-discrete s k) [
+            | yes e ↦ rw e (getD-set-same after k 0 0 (omega (arith, r .long)))
+            | no ne ↦ getD-set-other after k s 0 0 ne ∙ r .put s (omega arith)
+          ];
+      kept = λ s h. getD-set-other after k s 0 0 (λ e. omega arith) ∙ r .kept s (omega arith);
+    }
+
+-- Words that are 0 have room for entry 0.
+pub clear-room : {n : ℕ} {before after : List ℕ} → n ≤ elementsMost → n ≤ length before → Stored n (λ s. 0) before after → Room n 0 after
+clear-room few room r =
+    record { few = few; room = omega (arith, r .long); top = omega arith; small = λ s l. rw (r .put s l) (omega arith) }
+
+-- ---- a pass for entry i
+
+module _ {n i : ℕ} {before : List ℕ} (room : Room n i before) where
+  -- Before any store no bit i is set.
+  pub passed-start : Passed n i (λ s. false) before before
+  passed-start = record { stored = stored-same n before (λ s l. rw (zero-mul, zero-add)) (stored-start n before) }
+
+  -- Equal marks pass alike.
+  pub passed-same : {m m′ : ℕ → Bool} {after : List ℕ} → ((s : ℕ) → s < n → m s ≡ m′ s) → Passed n i m before after
+      → Passed n i m′ before after
+  passed-same e r = record { stored = stored-same n before (λ s l. rw (e s l)) (r .stored) }
+
+  module _ {m : ℕ → Bool} {after : List ℕ} (r : Passed n i m before after) (s : ℕ) (l : s < n) where
+    -- Bit i of a word is its mark, the bits below are those before, and there are no more.
+    pub passed-bit : bitAt (getD after s 0) i ≡ m s
+    passed-bit = rw (r .stored .put s l) (bit-top i (m s) (getD before s 0) (room .small s l))
+
+    pub passed-under : (a : ℕ) → a < i → bitAt (getD after s 0) a ≡ bitsOf before a s
+    passed-under a la = rw (r .stored .put s l) (bit-under i a (m s) (getD before s 0) la)
+
+    passed-rest : getD after s 0 % 2 ^ i ≡ getD before s 0
+    passed-rest = rw (r .stored .put s l) (low (bit (m s)) i (room .small s l))
+
+    -- One element's mark joined by another.
+    pub passed-join : (on : Bool) → Passed n i (at-put m s (m s || on)) before (set after s (bitOr (getD after s 0) (bit on * 2 ^ i)))
+    passed-join on =
+        record { stored = stored-same n before (λ k h. put-word k) (stored-set n before s _ (room .room) l (r .stored)) }
+      where
+        put-word : (k : ℕ) → at-put (λ k. bit (m k) * 2 ^ i + getD before k 0) s (bitOr (getD after s 0) (bit on * 2 ^ i)) k
+            ≡ bit (at-put m s (m s || on) k) * 2 ^ i + getD before k 0
+        put-word k =
+            elim (ℕ-discrete k s) [
+              | yes e ↦ rw (e, eq-eqb s s refl, r .stored .put s l) (joined-bit i (getD before s 0) (m s) on (room .small s l))
+              | no ne ↦ rw (ne-eqb k s ne)
+            ]
+
+    -- Another mark at one element.
+    pub passed-set : (on : Bool) → Passed n i (at-put m s on) before (set after s (bit on * 2 ^ i + getD after s 0 % 2 ^ i))
+    passed-set on =
+        record { stored = stored-same n before (λ k h. put-word k) (stored-set n before s _ (room .room) l (r .stored)) }
+      where
+        put-word : (k : ℕ) → at-put (λ k. bit (m k) * 2 ^ i + getD before k 0) s (bit on * 2 ^ i + getD after s 0 % 2 ^ i) k
+            ≡ bit (at-put m s on k) * 2 ^ i + getD before k 0
+        put-word k = elim (ℕ-discrete k s) [ yes e ↦ rw (e, eq-eqb s s refl, passed-rest) | no ne ↦ rw (ne-eqb k s ne) ]
+
+-- ---- from the first element on
+
+-- The marks of the elements before k.
+abbrev pub before-only : (ℕ → Bool) → ℕ → ℕ → Bool
+before-only m k s = ltb s k && m s
+
+module _ {n i : ℕ} {before : List ℕ} (room : Room n i before) (m : ℕ → Bool) where
+  -- No element yet.
+  pub ascent-start : Passed n i (before-only m 0) before before
+  ascent-start = passed-same room (λ s l. rw (le-ltb s 0 (omega arith))) (passed-start room)
+
+  -- The element in hand still has the word that it had.
+  pub ascent-word : {after : List ℕ} (k : ℕ) → k < n → Passed n i (before-only m k) before after → getD after k 0 ≡ getD before k 0
+  ascent-word k l r = r .stored .put k l ∙ rw (le-ltb k k (omega arith), zero-mul, zero-add)
+
+  -- One element more.
+  pub ascent-turn : {after : List ℕ} (k : ℕ) (on : Bool) → k < n → on ≡ m k → Passed n i (before-only m k) before after
+      → Passed n i (before-only m (k + 1)) before (set after k (bitOr (getD after k 0) (bit on * 2 ^ i)))
+  ascent-turn k on l e r = passed-same room (λ s h. turn s) (passed-join room r k l on) where
+    turn : (s : ℕ) → at-put (before-only m k) k (before-only m k k || on) s ≡ before-only m (k + 1) s
+    turn s =
+        elim (ℕ-discrete s k) [
+          | yes q ↦ rw (q, eq-eqb k k refl, le-ltb k k (omega arith), lt-ltb k (k + 1) (omega arith)) e
+          | no ne ↦ rw (ne-eqb s k ne) (ap (λ (b : Bool). b && m s) (side s ne))
+        ]
+      where
+        side : (s : ℕ) → (s ≡ k → ⊥) → ltb s k ≡ ltb s (k + 1)
+        side s ne =
+            elim (decLt s k) [
+              | yes h ↦ lt-ltb s k h ∙ sym (lt-ltb s (k + 1) (omega arith))
+              | no h ↦ le-ltb s k (omega arith) ∙ sym (le-ltb s (k + 1) (omega arith))
+            ]
+
+  -- Every element.
+  pub ascent-end : {after : List ℕ} (k : ℕ) → n ≤ k → Passed n i (before-only m k) before after → Passed n i m before after
+  ascent-end k h r = passed-same room (λ s l. rw (lt-ltb s k (omega arith))) r

@@ -1,0 +1,24 @@
+-- `until_mark`: the lowest bit of what the machine computes. Assumes nothing.
+use Prim.Native.Nat.{_^_, _/_}
+use borrow.Author.Needs.{needs}
+use Rattle.marking.proofs.back.until_mark.Statement.{statement}
+use Rattle.marking.proofs.back.until_mark.Tie as tie
+use Rattle.numbers.proofs.Masks.{low-until}
+
+shr-result : tie.Need-shr-result
+shr-result c = search needs
+
+shr-result-2 : tie.Need-shr-result-2
+shr-result-2 c = search needs
+
+cast-result : tie.Need-cast-result
+cast-result c = search needs
+
+shr-result-3 : tie.Need-shr-result-3
+shr-result-3 c = search needs
+
+returns : tie.Need-returns
+returns c = let p = c .args in low-until (p .there) (p .w / 2 ^ p .b) (p .w / 2 ^ p .a) (p .v / 2 ^ p .i)
+
+pub until-mark-spec : {M : Type 1} → statement M
+until-mark-spec = tie.close (tie.spec shr-result shr-result-2 cast-result shr-result-3 returns)

@@ -1,0 +1,27 @@
+-- `gate_mark`: the machine's gate is the specification's. Assumes nothing.
+use Prim.Native.Nat.{_^_, _/_}
+use Rattle.marking.proofs.WordLaws.{gate-low}
+use borrow.Author.Needs.{needs}
+use Rattle.marking.proofs.local.gate_mark.Statement.{statement}
+use Rattle.marking.proofs.local.gate_mark.Tie as tie
+
+shr-x : tie.Need-shr-x
+shr-x c = search needs
+
+cast-x : tie.Need-cast-x
+cast-x c = search needs
+
+shr-y : tie.Need-shr-y
+shr-y c = search needs
+
+cast-y : tie.Need-cast-y
+cast-y c = search needs
+
+cast-result : tie.Need-cast-result
+cast-result c = search needs
+
+returns : tie.Need-returns
+returns c = let p = c .before .before .before .args in gate-low (p .inverted) (p .w / 2 ^ p .a) (p .w / 2 ^ p .b)
+
+pub gate-mark-spec : {M : Type 1} → statement M
+gate-mark-spec = tie.close (tie.spec shr-x cast-x shr-y cast-y cast-result returns)

@@ -1,0 +1,124 @@
+// The writer: it follows the rows of a text's tree and puts the entries. A test stands in a row below
+// that of the part it belongs to, and every step puts an entry or more, so it ends.
+ghost use mathlib.Core.Path.{_≡_};
+ghost use Prim.Native.Nat.{_≤_};
+ghost use lib.ListN.{length};
+ghost use lib.Seq.{sets};
+ghost use Rattle.grammar.specs.Rules.{ruleBytes};
+ghost use Rattle.paths.specs.Syntax.{Test};
+ghost use Rattle.paths.specs.Translation.{tableOf};
+ghost use Rattle.parse.specs.Rows.{HeldT};
+ghost use Rattle.typing.specs.Writing.{TestAsks, TestPuts, StepAsks, StepPuts, StepsAsk, StepsPut};
+ghost use Rattle.terms.specs.Limits.{entriesMost};
+use crate::part::part_at;
+use crate::put::Written;
+use crate::put::last;
+use crate::put::put_record;
+use crate::step::put_plain;
+use crate::step::put_tested;
+use parse::tree::ROW_PLACES;
+
+// What was written is handed on field by field: handed on as it came, it would be copied as a whole
+// right after its fields were stored one by one, and the processor waits for that.
+
+// The entries of the test in row n, behind what is written: the argument or arguments, and the whole;
+// of a path its closing "true", and its steps.
+fn write(rows: &[u16; ROW_PLACES], n: u16, rule: &mut [u8], w: Written) -> Written
+    requires { ⌜ (n ≤ entriesMost) × TestAsks (now rows) n (now rule) w ⌝ }
+    ensures { λ r. ⌜ TestPuts (now (rows .entry)) n (now (rule .entry)) w (now (rule .exit)) r ⌝ }
+{
+    let part = part_at(rows, n);
+    let form = part.form;
+    match form {
+        1 => put_record(rule, w, 1, 0, 0),
+        2 => put_record(rule, w, 2, part.first, 0),
+        3 => {
+            let test = write(
+                rows,
+                part.first,
+                rule,
+                Written {
+                    entries: w.entries,
+                    bytes: w.bytes,
+                },
+            );
+            put_record(rule, test, 3, last(test), 0)
+        }
+        4 => {
+            let left = write(
+                rows,
+                part.first,
+                rule,
+                Written {
+                    entries: w.entries,
+                    bytes: w.bytes,
+                },
+            );
+            let right = write(rows, part.second, rule, left);
+            put_record(rule, right, 4, last(left), last(right))
+        }
+        _ => {
+            let end = put_record(rule, w, 1, 0, 0);
+            write_steps(rows, n, rule, end)
+        }
+    }
+}
+
+// The entries of the step in row n and then of the steps before it in its path. The argument of each
+// is the last entry so far. A loop and not a call for each step, as the steps are read.
+fn write_steps(rows: &[u16; ROW_PLACES], n: u16, rule: &mut [u8], w: Written) -> Written
+    requires { ⌜ (1 ≤ n) × (1 ≤ w .entries) × StepsAsk (now rows) n (now rule) w ⌝ }
+    ensures { λ r. ⌜ StepsPut (now (rows .entry)) n (now (rule .entry)) w (now (rule .exit)) r ⌝ }
+{
+    let mut row = n;
+    let mut so_far = w;
+    loop {
+        so_far = write_step(rows, row, rule, so_far);
+        let part = part_at(rows, row);
+        if part.second == 0 {
+            return so_far;
+        }
+        row = part.second;
+    }
+}
+
+// The entries of the step in row n alone: of its test, if it has one, and its own.
+fn write_step(rows: &[u16; ROW_PLACES], n: u16, rule: &mut [u8], w: Written) -> Written
+    requires { ⌜ (n ≤ entriesMost) × (1 ≤ w .entries) × StepAsks (now rows) n (now rule) w ⌝ }
+    ensures { λ r. ⌜ StepPuts (now (rows .entry)) n (now (rule .entry)) w (now (rule .exit)) r ⌝ }
+{
+    let part = part_at(rows, n);
+    let form = part.form;
+    match form {
+        6..=13 => put_plain(rule, w, form),
+        _ => {
+            let test = write(
+                rows,
+                part.first,
+                rule,
+                Written {
+                    entries: w.entries,
+                    bytes: w.bytes,
+                },
+            );
+            put_tested(rule, test, form, last(w))
+        }
+    }
+}
+
+// The rule of the test in row n at the front of the buffer, which has room for it. The bytes past
+// the rule keep their contents.
+pub(crate) fn write_rule(rows: &[u16; ROW_PLACES], n: usize, rule: &mut [u8])
+    requires { ⌜ (n ≤ entriesMost) × ((t : Test) × HeldT (now rows) t n × (length (tableOf t) ≤ entriesMost) × (length (ruleBytes (tableOf t)) ≤ length (now rule))) ⌝ }
+    ensures { λ r. ⌜ ((t : Test) → HeldT (now (rows .entry)) t n → now (rule .exit) ≡ sets (now (rule .entry)) 0 (ruleBytes (tableOf t))) ⌝ }
+{
+    write(
+        rows,
+        n as u16,
+        rule,
+        Written {
+            entries: 0,
+            bytes: 0,
+        },
+    );
+}
