@@ -13,6 +13,7 @@ use Rattle.reports.specs.Report.{reportAnswer, tagsOf as tagsIn}
 use Rattle.reports.specs.Tags.{opens, openedCount}
 use Rattle.terms.specs.declared.answer.Answer.the-variants.{Accepted}
 use Rattle.numbers.specs.Bytes.{Bytes}
+use Rattle.numbers.proofs.Lists.{over-is}
 use Rattle.meaning.specs.Marks.{wordOf}
 use Rattle.meaning.specs.OnePass.{LooksBack}
 use Rattle.meaning.proofs.Reflect.{word-iff}
@@ -28,15 +29,14 @@ use Rattle.paths.specs.Syntax.{Test, namesT}
 use Rattle.paths.specs.Selection.{Selects}
 use Rattle.paths.specs.Translation.{lastOf, tableOf}
 use Rattle.terms.specs.Limits.{entriesMost}
-use Rattle.paths.specs.Answer.{TextOf, bytesFor, taken}
-use Rattle.paths.proofs.Answer.{gets-only}
+use Rattle.paths.specs.Answer.{TextOf, bytesFor}
 use Rattle.paths.proofs.Unambiguous.{text-only}
 use Rattle.paths.proofs.Agrees.{table-selects, pred-lt}
 use Rattle.paths.proofs.Rule.{table-rule, table-taken}
 use Rattle.paths.proofs.BackOnly.{table-back}
 use Rattle.typing.specs.Typed.{Typed}
 use Rattle.typing.specs.declared.export.PathReply.{PathReply}
-use Rattle.typing.proofs.Answered.{zero-iff}
+use Rattle.typing.proofs.Answered.{zero-iff, taken-bytes}
 use Rattle.both.proofs.Same.{opening-there}
 use Rattle.rules.specs.Entries.{entriesOf}
 use Rattle.reports.specs.Elements.{labelsOf, levelsOf}
@@ -62,8 +62,9 @@ module _ (text lent after : List ℕ) (r : PathReply) (t : Test) (typed : Typed 
   rule-is =
       let (u, y, (l, m)) = zero-iff text lent r after typed .0 zero in
       let same : u ≡ t = text-only u t (sym (y .spelt) ∙ spelt .spelt) in
-      let bytes : typed .bytes ≡ bytesFor u = gets-only text (length lent) _ _ _ _ _ _ (typed .gets) (taken y l m) .2 in
-      rw (typed .count, typed .buffer) (take-append-seam (typed .bytes) (drop (length (typed .bytes)) lent)) ∙ bytes ∙ ap bytesFor same
+      let room : length (bytesFor t) ≤ length lent = rw same at m in
+      let (count, front) = taken-bytes text lent r after typed spelt zero in
+      rw (count, front, over-is (bytesFor t) lent room) (take-append-seam (bytesFor t) (drop (length (bytesFor t)) lent))
 
   -- The last entry's bit of word s is set exactly where the text's own meaning has element s.
   pub evaluated-selects : (report marks words : List ℕ) (e : Evaluation) → Evaluated rule report marks e words → e .number ≡ 0

@@ -8,10 +8,12 @@ use mathlib.Core.List.{List, [], _∷_, _++_}
 use borrow.Author.Tests.{eqb-true, eqb-false, ltb-true, ltb-false}
 use lib.Dec.{eqb, ltb}
 use lib.ListN.{length, take, drop, drop-of-length-le, length-drop, length-take, length-append}
+use Rattle.terms.specs.Answer.{numberOf, placeOf}
+use Rattle.terms.specs.declared.answer.Answer.the-variants.{Refused}
 use Rattle.grammar.specs.When.{Sized}
 use Rattle.paths.specs.Syntax.{Test}
 use Rattle.paths.specs.Spelling.{piecesT, textOf, Text, StopsAt}
-use Rattle.paths.specs.Answer.{TextOf, Gets, bad-size, no-text, too-many, no-room, taken, textMost}
+use Rattle.paths.specs.Answer.{TextOf, TextGets, bad-size, no-text, is-text, textMost}
 use Rattle.paths.proofs.Machine.{test, run, next, stopped}
 use Rattle.paths.proofs.Ahead.{spell-ahead}
 use Rattle.paths.proofs.Count.{table-count, table-bytes}
@@ -85,7 +87,7 @@ not-sized s e z = go (eqb (length s) 0) refl e where
   go false i e = omega (arith, ltb-true textMost (length s) e, z .few)
 
 pub tree-size : (s : List ℕ) → (eqb (length s) 0 || ltb textMost (length s)) ≡ true → TreeRead s (O.Stopped 0) noRows
-tree-size s e = (λ room. bad-size (not-sized s e), refl)
+tree-size s e = (bad-size (not-sized s e), refl)
 
 module _ (s : List ℕ) (z : Sized textMost s) (o : Outcome) (rows : List ℕ) (x : Read s noRows o rows) where
   pub tree-text : (n b : ℕ) → o ≡ O.Text n b → TreeRead s (O.Text n b) rows
@@ -95,18 +97,12 @@ module _ (s : List ℕ) (z : Sized textMost s) (o : Outcome) (rows : List ℕ) (
 
   pub tree-stopped : (p : ℕ) → o ≡ O.Stopped p → TreeRead s (O.Stopped p) noRows
   tree-stopped p e =
-      let y : Read s noRows (O.Stopped p) rows = rw e at x in (λ room. no-text z (y .0) (y .1), refl)
+      let y : Read s noRows (O.Stopped p) rows = rw e at x in (no-text z (y .0) (y .1), refl)
 
 -- ---- one result only
 
-no-place : (s : List ℕ) (t : Test) (p : ℕ) → TextOf s t → ((room : ℕ) → Gets s room 13 p []) → ⊥
-no-place s t p x g = go (g 0) refl where
-  go : {k q : ℕ} {w : List ℕ} → Gets s 0 k q w → k ≡ 13 → ⊥
-  go (bad-size h) e = h (x .sized)
-  go (no-text z h k) e = h (t, x .labels, x .spelt)
-  go (too-many y l) e = omega arith
-  go (no-room y l m) e = omega arith
-  go (taken y l m) e = omega arith
+no-place : (s : List ℕ) (t : Test) (p : ℕ) → TextOf s t → TextGets s (Refused 13 p) [] → ⊥
+no-place s t p x g = let z = ap numberOf (gets-only s g (is-text x) .0) in omega arith
 
 -- Any two results that meet the promise are equal: the outcome, and every number of the rows.
 pub tree-only : (s : List ℕ) (o q : Outcome) (rows others : List ℕ) → TreeRead s o rows → TreeRead s q others → (o ≡ q) × (rows ≡ others)
@@ -116,4 +112,4 @@ tree-only s (O.Text n b) (O.Text m c) rows others (t, x, i, j, h) (u, y, k, l, g
 tree-only s (O.Text n b) (O.Stopped q) rows others (t, x, i, j, h) (g, r) = absurd (no-place s t q x g)
 tree-only s (O.Stopped p) (O.Text m c) rows others (g, r) (t, x, i, j, h) = absurd (no-place s t p x g)
 tree-only s (O.Stopped p) (O.Stopped q) rows others (g, r) (f, k) =
-    let same : p ≡ q = gets-only s 0 13 p [] 13 q [] (g 0) (f 0) .1 in (rw same, r ∙ sym k)
+    let same : p ≡ q = ap placeOf (gets-only s g f .0) in (rw same, r ∙ sym k)

@@ -12,7 +12,8 @@ use Rattle.terms.specs.declared.kind.Axis.{Axis}
 use Rattle.paths.specs.Syntax.{Test, Path, Step, along, along*, passing, while, GoodT, GoodP, GoodS}
 use Rattle.paths.specs.Spelling.{greater, sign, axisWord, notWord, orWord, gap, piecesT, piecesP, piecesS, textOf, Text, StopsAt}
 use Rattle.paths.specs.Translation.{neighbourKind, tableOf}
-use Rattle.paths.specs.Answer.{textMost, TextOf, bytesFor, Gets}
+use Rattle.terms.specs.declared.answer.Answer.the-variants.{Refused}
+use Rattle.paths.specs.Answer.{textMost, TextOf, bytesFor, TextGets}
 use Rattle.paths.proofs.Machine.{Expected, test, lettered, alternative, number, path, axis, afterStep, byte, stopped, run}
 use Rattle.paths.proofs.Ahead.{wordyT, wordyS, ahead}
 use Rattle.paths.proofs.Count.{weightT, weightP, weightS, recordLength}
@@ -260,4 +261,4 @@ Read s rows (O.Stopped p) rows' = (Text s → ⊥) × StopsAt s p
 abbrev pub TreeRead : (s : List ℕ) → Outcome → (rows : List ℕ) → Type 0
 TreeRead s (O.Text n b) rows =
     (t : Test) × TextOf s t × (n ≡ length (tableOf t)) × (b ≡ length (bytesFor t)) × (rows ≡ noteT t 0 noRows)
-TreeRead s (O.Stopped p) rows = ((room : ℕ) → Gets s room 13 p []) × (rows ≡ noRows)
+TreeRead s (O.Stopped p) rows = TextGets s (Refused 13 p) [] × (rows ≡ noRows)

@@ -1,10 +1,16 @@
--- What a typed rule gets: one outcome for each row of the table of numbers, in the order size, grammar, entries, room.
+-- What a typed rule gets, in the order of the table of numbers: size and grammar, entries, room.
 -- Shuts out: 14 before 13; 9 before 13; a place one byte late; a 65th entry taken; a refused text that writes.
--- Laws: proofs/Answer.antt (each text and room has exactly one). Assumes nothing.
-use Prim.Native.Nat.{ℕ, _≤_, _<_}
+-- Laws: proofs/Answer.antt (each string gets one answer, and one only; what the order comes to). Assumes nothing.
+use Prim.Native.Nat.{ℕ}
 use mathlib.Core.Path.{_≡_}
+use mathlib.Core.Bool.{cond}
 use mathlib.Core.List.{List, []}
+use lib.Dec.{ltb}
 use lib.ListN.{length}
+use Rattle.terms.specs.Answer.{inOrder, whereAccepted}
+use Rattle.terms.specs.declared.answer.Answer.{Answer}
+use Rattle.terms.specs.declared.answer.Answer.the-variants.{Accepted, Refused}
+use Rattle.rules.specs.declared.rule.Entry.{Entry}
 use Rattle.terms.specs.Limits.{entriesMost}
 use Rattle.grammar.specs.When.{Sized}
 use Rattle.grammar.specs.Rules.{ruleBytes}
@@ -26,12 +32,20 @@ pub record TextOf (s : List ℕ) (t : Test) : Type 0 where
 abbrev pub bytesFor : Test → List ℕ
 bytesFor t = ruleBytes (tableOf t)
 
--- The number, the place and the bytes that a text gets, where there is room for so many bytes. Row 13: the size is wrong, or the string
--- is no text, which is placed where it stops being the beginning of one; row 14: too many entries; row 9: too little room; row 0: none
--- of these, and the bytes are the rule's. What is refused gets no bytes.
-pub data Gets (s : List ℕ) (room : ℕ) : (number place : ℕ) → List ℕ → Type 0 where
-  bad-size : (Sized textMost s → ⊥) → Gets s room 13 0 []
-  no-text : {p : ℕ} → Sized textMost s → (Text s → ⊥) → StopsAt s p → Gets s room 13 p []
-  too-many : {t : Test} → TextOf s t → entriesMost < length (tableOf t) → Gets s room 14 0 []
-  no-room : {t : Test} → TextOf s t → length (tableOf t) ≤ entriesMost → room < length (bytesFor t) → Gets s room 9 0 []
-  taken : {t : Test} → TextOf s t → length (tableOf t) ≤ entriesMost → length (bytesFor t) ≤ room → Gets s room 0 0 (bytesFor t)
+-- What a string gets as a text, and the entries that it stands for. Row 13: the size is wrong, or the string is no text, which is placed
+-- where it stops being the beginning of one. A text is accepted, with the number of its entries.
+pub data TextGets (s : List ℕ) : Answer → List Entry → Type 0 where
+  bad-size : (Sized textMost s → ⊥) → TextGets s (Refused 13 0) []
+  no-text : {p : ℕ} → Sized textMost s → (Text s → ⊥) → StopsAt s p → TextGets s (Refused 13 p) []
+  is-text : {t : Test} → TextOf s t → TextGets s (Accepted (length (tableOf t))) (tableOf t)
+
+module _ (a : Answer) (es : List Entry) (room : ℕ) where
+  -- The order, where the string gets the answer a as a text, with the entries es, and there is room for so many bytes: first a; then row
+  -- 14, too many entries; then row 9, too little room.
+  unfoldable pub pathOutcome : Answer
+  pathOutcome =
+      inOrder a (inOrder (cond (ltb entriesMost (length es)) (Refused 14 0) a) (cond (ltb room (length (ruleBytes es))) (Refused 9 0) a))
+
+  -- The bytes that are given: the rule's, and none where anything is refused.
+  abbrev pub bytesGiven : List ℕ
+  bytesGiven = whereAccepted pathOutcome (ruleBytes es)

@@ -1,14 +1,18 @@
 -- The call: one law for each return; any two results are equal; each number is given exactly when its row applies; a refusal leaves
 -- the buffer. Assumes nothing.
 use Prim.Native.Nat.{ℕ, _*_, _≤_, _<_}
+use native.Mathlib.Decide.{decLt}
 use native.Mathlib.Omega.{arith}
-use mathlib.Core.Path.{_≡_, refl, sym, ap, _∙_}
+use mathlib.Core.Path.{_≡_, sym, ap, _∙_}
 use mathlib.Core.Bool.{Bool, true, false, cond}
 use mathlib.Core.List.{List, [], _∷_, _++_}
-use mathlib.Core.Logic.{_⊎_, inl, inr, _↔_}
+use mathlib.Core.Logic.{_⊎_, inl, inr, ⊎-elim, _↔_}
 use lib.Dec.{leb}
-use lib.ListN.{length, drop, length-append}
-use lib.Seq.{sets}
+use lib.ListN.{length, length-append}
+use Rattle.numbers.specs.Lists.{over}
+use Rattle.numbers.proofs.Lists.{over-none}
+use Rattle.terms.specs.declared.answer.Answer.{Answer}
+use Rattle.terms.specs.declared.answer.Answer.the-variants.{Accepted, Refused}
 use Rattle.terms.specs.Kinds.{rowOf}
 use Rattle.rules.specs.declared.rule.Entry.{Entry}
 use Rattle.numbers.specs.Bytes.{twoBytes}
@@ -18,16 +22,15 @@ use Rattle.paths.specs.Syntax.{Test}
 use Rattle.paths.specs.Spelling.{Text, StopsAt}
 use Rattle.paths.specs.Translation.{tableOf}
 use Rattle.terms.specs.Limits.{entriesMost, ruleMost}
-use Rattle.paths.specs.Answer.{textMost, TextOf, bytesFor, Gets, bad-size, no-text, too-many, no-room, taken}
-use Rattle.paths.proofs.Answer.{gets-only}
+use Rattle.paths.specs.Answer.{textMost, TextOf, bytesFor, TextGets, bad-size, no-text, is-text, pathOutcome, bytesGiven}
+use Rattle.paths.proofs.Answer.{gets-only, one-tree, outcome-many, outcome-short, outcome-taken, outcome-refused}
 use Rattle.parse.specs.Rows.{HeldT}
 use Rattle.parse.specs.Promises.{TreeRead}
 use Rattle.parse.specs.declared.tree.Outcome.{Outcome}
 use Rattle.parse.specs.declared.tree.Outcome.the-variants as O
 use Rattle.parse.proofs.HeldLaws.{text-held}
 use Rattle.typing.specs.declared.export.PathReply.{PathReply}
-use Rattle.typing.specs.Typed.{Typed}
-use Rattle.typing.proofs.Whole.{front-is}
+use Rattle.typing.specs.Typed.{replyOf, Typed}
 
 -- ---- room
 
@@ -52,39 +55,41 @@ room-always t l = omega (arith, bytes-few (tableOf t))
 
 -- ---- the returns
 
-abbrev reply : (number place written : ℕ) → PathReply
-reply number place written = record { number = number; place = place; written = written }
+counted : {m n : ℕ} → m ≡ n → _≡_ {A = PathReply} (record { number = 0; place = 0; written = n }) (record { number = 0; place = 0; written = m })
+counted e = rw e
 
 module _ (text rule : List ℕ) where
-  refused : (n p : ℕ) → Gets text (length rule) n p [] → Typed text rule (reply n p 0) rule
-  refused n p g = record { bytes = []; gets = g; count = refl; buffer = refl }
+  -- What is refused leaves the buffer.
+  typed-refused : {a : Answer} {es : List Entry} (number place : ℕ) {r : PathReply} → TextGets text a es → pathOutcome a es (length rule) ≡ Refused number place
+      → r ≡ replyOf (Refused number place) [] → Typed text rule r rule
+  typed-refused {a} {es} number place g e q =
+      record { answer = a; entries = es; gets = g; reply-is = rw e q; buffer = rw e (sym (over-none rule)) }
 
   pub place-small : (o : Outcome) (rows : List ℕ) (p : ℕ) → o ≡ O.Stopped p → TreeRead text o rows → p ≤ textMost
-  place-small o rows p e x = go (stopped .0 0) refl where
-    stopped : TreeRead text (O.Stopped p) rows
-    stopped = rw e at x
+  place-small o rows p e x = let y : TreeRead text (O.Stopped p) rows = rw e at x in go (y .0) where
+    go : {q : ℕ} {es : List Entry} → TextGets text (Refused 13 q) es → q ≤ textMost
+    go (bad-size h) = omega arith
+    go (no-text z h k) = omega (arith, z .few, k .within)
 
-    go : {n q : ℕ} {w : List ℕ} → Gets text 0 n q w → p ≡ q → p ≤ textMost
-    go (bad-size h) i = omega arith
-    go (no-text z h k) i = omega (arith, z .few, k .within)
-    go (too-many y l) i = omega arith
-    go (no-room y l m) i = omega arith
-    go (taken y l m) i = omega arith
-
-  pub typed-stopped : (o : Outcome) (rows : List ℕ) (p : ℕ) (r : PathReply) → o ≡ O.Stopped p → TreeRead text o rows → r ≡ reply 13 p 0 → Typed text rule r rule
-  typed-stopped o rows p r e x q = let y : TreeRead text (O.Stopped p) rows = rw e at x in rw q (refused 13 p (y .0 (length rule)))
+  pub typed-stopped : (o : Outcome) (rows : List ℕ) (p : ℕ) (r : PathReply) → o ≡ O.Stopped p → TreeRead text o rows
+      → r ≡ replyOf (Refused 13 p) [] → Typed text rule r rule
+  typed-stopped o rows p r e x q =
+      let y : TreeRead text (O.Stopped p) rows = rw e at x in typed-refused 13 p (y .0) (outcome-refused 13 p [] (length rule)) q
 
   module _ (o : Outcome) (rows : List ℕ) (n b : ℕ) (e : o ≡ O.Text n b) (x : TreeRead text o rows) where
     -- What is known of a text that was read.
     abbrev whole : TreeRead text (O.Text n b) rows
     whole = rw e at x
 
-    pub typed-many : (r : PathReply) → entriesMost < n → r ≡ reply 14 0 0 → Typed text rule r rule
-    typed-many r l q = let (t, y, i, j, h) = whole in rw q (refused 14 0 (too-many y (omega arith)))
+    pub typed-many : (r : PathReply) → entriesMost < n → r ≡ replyOf (Refused 14 0) [] → Typed text rule r rule
+    typed-many r l q =
+        let (t, y, i, j, h) = whole in typed-refused 14 0 (is-text y) (outcome-many _ (tableOf t) (length rule) (omega arith)) q
 
     module _ (few : n ≤ entriesMost) where
-      pub typed-short : (r : PathReply) → length rule < b → r ≡ reply 9 0 0 → Typed text rule r rule
-      typed-short r l q = let (t, y, i, j, h) = whole in rw q (refused 9 0 (no-room y (omega arith) (omega arith)))
+      pub typed-short : (r : PathReply) → length rule < b → r ≡ replyOf (Refused 9 0) [] → Typed text rule r rule
+      typed-short r l q =
+          let (t, y, i, j, h) = whole in
+          typed-refused 9 0 (is-text y) (outcome-short _ (tableOf t) (length rule) (omega arith) (omega arith)) q
 
       pub bytes-small : b ≤ ruleMost
       bytes-small = let (t, y, i, j, h) = whole in omega (arith, room-always t (omega arith))
@@ -94,26 +99,26 @@ module _ (text rule : List ℕ) where
         pub typed-asks : (n ≤ entriesMost) × ((t : Test) × HeldT rows t n × (length (tableOf t) ≤ entriesMost) × (length (ruleBytes (tableOf t)) ≤ length rule))
         typed-asks = let (t, y, i, j, h) = whole in (few, (t, text-held t n rows i few h, omega arith, omega arith))
 
-        pub typed-taken : (after : List ℕ) → ((t : Test) → HeldT rows t n → after ≡ sets rule 0 (ruleBytes (tableOf t))) → Typed text rule (reply 0 0 b) after
+        pub typed-taken : (after : List ℕ) → ((t : Test) → HeldT rows t n → after ≡ over (ruleBytes (tableOf t)) rule)
+            → Typed text rule (record { number = 0; place = 0; written = b }) after
         typed-taken after f =
             let (t, y, i, j, h) = whole in
+            let k = outcome-taken (length (tableOf t)) (tableOf t) (length rule) (omega arith) (omega arith) in
             record {
-              bytes = bytesFor t;
-              gets = taken y (omega arith) (omega arith);
-              count = j;
-              buffer = f t (text-held t n rows i few h) ∙ front-is (bytesFor t) rule (omega arith);
+              answer = Accepted (length (tableOf t));
+              entries = tableOf t;
+              gets = is-text y;
+              reply-is = rw k (counted (sym j));
+              buffer = rw k (f t (text-held t n rows i few h));
             }
 
 -- ---- one result only
 
 pub pz-read-path-only : (text rule : List ℕ) {r r′ : PathReply} {after after′ : List ℕ} → Typed text rule r after → Typed text rule r′ after′
     → (r ≡ r′) × (after ≡ after′)
-pz-read-path-only text rule {r} {r′} x y =
-    let (i, j, k) = gets-only text (length rule) _ _ _ _ _ _ (x .gets) (y .gets) in
-    (same r r′ i j (x .count ∙ ap length k ∙ sym (y .count)), x .buffer ∙ rw k (sym (y .buffer))) where
-      same : (p q : PathReply) → p .number ≡ q .number → p .place ≡ q .place → p .written ≡ q .written
-          → reply (p .number) (p .place) (p .written) ≡ reply (q .number) (q .place) (q .written)
-      same p q i j k = rw (i, j, k)
+pz-read-path-only text rule x y =
+    let (i, j) = gets-only text (x .gets) (y .gets) in
+    (x .reply-is ∙ rw (i, j) (sym (y .reply-is)), x .buffer ∙ rw (i, j) (sym (y .buffer)))
 
 -- ---- each number exactly when
 
@@ -121,73 +126,127 @@ pz-read-path-only text rule {r} {r′} x y =
 abbrev pub Some : List ℕ → (Test → Type 0) → Type 0
 Some text P = (t : Test) × TextOf text t × P t
 
+-- A text's outcome: too many entries, too little room, or neither.
+text-told : (t : Test) (room : ℕ)
+    → (entriesMost < length (tableOf t))
+    ⊎ (((length (tableOf t) ≤ entriesMost) × (room < length (bytesFor t))) ⊎ ((length (tableOf t) ≤ entriesMost) × (length (bytesFor t) ≤ room)))
+text-told t room =
+    elim (decLt entriesMost (length (tableOf t))) [
+      | yes l ↦ inl l
+      | no l ↦ inr (elim (decLt room (length (bytesFor t))) [ yes m ↦ inl (omega arith, m) | no m ↦ inr (omega arith, omega arith) ])
+    ]
+
 module _ (text rule : List ℕ) (r : PathReply) (after : List ℕ) (x : Typed text rule r after) where
-  -- Another outcome with the same text and room has the same number and place.
-  number-of : (n p : ℕ) (w : List ℕ) → Gets text (length rule) n p w → (r .number ≡ n) × (r .place ≡ p)
-  number-of n p w g = let (i, j, k) = gets-only text (length rule) _ _ _ _ _ _ (x .gets) g in (i, j)
+  abbrev room : ℕ
+  room = length rule
+
+  -- Whatever the string gets as a text, the reply and the buffer are what that comes to.
+  reply-told : {a : Answer} {es : List Entry} → TextGets text a es → r ≡ replyOf (pathOutcome a es room) (ruleBytes es)
+  reply-told g = let (i, j) = gets-only text (x .gets) g in x .reply-is ∙ rw (i, j)
+
+  buffer-told : {a : Answer} {es : List Entry} → TextGets text a es → after ≡ over (bytesGiven a es room) rule
+  buffer-told g = let (i, j) = gets-only text (x .gets) g in x .buffer ∙ rw (i, j)
+
+  -- So is each row: the string is no text, or it is one with too many entries, with too little room, or with neither.
+  refused-told : (p : ℕ) → TextGets text (Refused 13 p) [] → (r ≡ replyOf (Refused 13 p) []) × (after ≡ rule)
+  refused-told p g =
+      (reply-told g ∙ rw (outcome-refused 13 p [] room), buffer-told g ∙ rw (outcome-refused 13 p [] room) (over-none rule))
+
+  module _ {t : Test} (y : TextOf text t) where
+    many-told : entriesMost < length (tableOf t) → (r ≡ replyOf (Refused 14 0) []) × (after ≡ rule)
+    many-told l =
+        let e = outcome-many (length (tableOf t)) (tableOf t) room l in (reply-told (is-text y) ∙ rw e, buffer-told (is-text y) ∙ rw e (over-none rule))
+
+    short-told : (length (tableOf t) ≤ entriesMost) × (room < length (bytesFor t)) → (r ≡ replyOf (Refused 9 0) []) × (after ≡ rule)
+    short-told (l, m) =
+        let e = outcome-short (length (tableOf t)) (tableOf t) room l m in
+        (reply-told (is-text y) ∙ rw e, buffer-told (is-text y) ∙ rw e (over-none rule))
+
+    taken-told : (length (tableOf t) ≤ entriesMost) × (length (bytesFor t) ≤ room)
+        → (r ≡ record { number = 0; place = 0; written = length (bytesFor t) }) × (after ≡ over (bytesFor t) rule)
+    taken-told (l, m) =
+        let e = outcome-taken (length (tableOf t)) (tableOf t) room l m in (reply-told (is-text y) ∙ rw e, buffer-told (is-text y) ∙ rw e)
+
+  -- The number and the place by each row.
+  refused-number : (p : ℕ) → TextGets text (Refused 13 p) [] → (r .number ≡ 13) × (r .place ≡ p)
+  refused-number p g = let e = refused-told p g .0 in (ap (λ (q : PathReply). q .number) e, ap (λ (q : PathReply). q .place) e)
+
+  module _ {t : Test} (y : TextOf text t) where
+    many-number : entriesMost < length (tableOf t) → (r .number ≡ 14) × (r .place ≡ 0)
+    many-number h = let e = many-told y h .0 in (ap (λ (q : PathReply). q .number) e, ap (λ (q : PathReply). q .place) e)
+
+    short-number : (length (tableOf t) ≤ entriesMost) × (room < length (bytesFor t)) → (r .number ≡ 9) × (r .place ≡ 0)
+    short-number h = let e = short-told y h .0 in (ap (λ (q : PathReply). q .number) e, ap (λ (q : PathReply). q .place) e)
+
+    taken-number : (length (tableOf t) ≤ entriesMost) × (length (bytesFor t) ≤ room) → (r .number ≡ 0) × (r .place ≡ 0)
+    taken-number h = let e = taken-told y h .0 in (ap (λ (q : PathReply). q .number) e, ap (λ (q : PathReply). q .place) e)
+
+  -- There are no other rows: what follows from each of them holds.
+  by-row : {P : Type 0} → ((p : ℕ) → TextGets text (Refused 13 p) [] → P)
+      → ((t : Test) → TextOf text t → entriesMost < length (tableOf t) → P)
+      → ((t : Test) → TextOf text t → (length (tableOf t) ≤ entriesMost) × (room < length (bytesFor t)) → P)
+      → ((t : Test) → TextOf text t → (length (tableOf t) ≤ entriesMost) × (length (bytesFor t) ≤ room) → P) → P
+  by-row {P} refused many short taken = go (x .gets) where
+    go : {a : Answer} {es : List Entry} → TextGets text a es → P
+    go (bad-size h) = refused 0 (bad-size h)
+    go (no-text {p} z h k) = refused p (no-text z h k)
+    go (is-text {t} y) = ⊎-elim (many t y) (⊎-elim (short t y) (taken t y)) (text-told t room)
 
   -- 0: a text of 64 entries or fewer, and room for its rule.
   pub zero-iff : (r .number ≡ 0) ↔ Some text (λ t. (length (tableOf t) ≤ entriesMost) × (length (bytesFor t) ≤ length rule))
-  zero-iff = (λ e. go (x .gets) e, λ (t, y, (l, m)). number-of 0 0 _ (taken y l m) .0) where
-    go : {n p : ℕ} {w : List ℕ} → Gets text (length rule) n p w → n ≡ 0 → Some text (λ t. (length (tableOf t) ≤ entriesMost) × (length (bytesFor t) ≤ length rule))
-    go (bad-size h) e = absurd (omega arith)
-    go (no-text z h k) e = absurd (omega arith)
-    go (too-many y l) e = absurd (omega arith)
-    go (no-room y l m) e = absurd (omega arith)
-    go (taken {t} y l m) e = (t, y, (l, m))
+  zero-iff = (
+    λ e. by-row (λ p g. absurd (omega (arith, refused-number p g .0))) (λ t y h. absurd (omega (arith, many-number y h .0)))
+        (λ t y h. absurd (omega (arith, short-number y h .0))) (λ t y h. (t, y, h)),
+    λ (t, y, h). taken-number y h .0,
+  )
 
   -- 9: a text of 64 entries or fewer, and no room for its rule.
   pub nine-iff : (r .number ≡ 9) ↔ Some text (λ t. (length (tableOf t) ≤ entriesMost) × (length rule < length (bytesFor t)))
-  nine-iff = (λ e. go (x .gets) e, λ (t, y, (l, m)). number-of 9 0 _ (no-room y l m) .0) where
-    go : {n p : ℕ} {w : List ℕ} → Gets text (length rule) n p w → n ≡ 9 → Some text (λ t. (length (tableOf t) ≤ entriesMost) × (length rule < length (bytesFor t)))
-    go (bad-size h) e = absurd (omega arith)
-    go (no-text z h k) e = absurd (omega arith)
-    go (too-many y l) e = absurd (omega arith)
-    go (no-room {t} y l m) e = (t, y, (l, m))
-    go (taken y l m) e = absurd (omega arith)
+  nine-iff = (
+    λ e. by-row (λ p g. absurd (omega (arith, refused-number p g .0))) (λ t y h. absurd (omega (arith, many-number y h .0)))
+        (λ t y h. (t, y, h)) (λ t y h. absurd (omega (arith, taken-number y h .0))),
+    λ (t, y, h). short-number y h .0,
+  )
 
   -- 14: a text of more than 64 entries.
   pub fourteen-iff : (r .number ≡ 14) ↔ Some text (λ t. entriesMost < length (tableOf t))
-  fourteen-iff = (λ e. go (x .gets) e, λ (t, y, l). number-of 14 0 _ (too-many y l) .0) where
-    go : {n p : ℕ} {w : List ℕ} → Gets text (length rule) n p w → n ≡ 14 → Some text (λ t. entriesMost < length (tableOf t))
-    go (bad-size h) e = absurd (omega arith)
-    go (no-text z h k) e = absurd (omega arith)
-    go (too-many {t} y l) e = (t, y, l)
-    go (no-room y l m) e = absurd (omega arith)
-    go (taken y l m) e = absurd (omega arith)
+  fourteen-iff = (
+    λ e. by-row (λ p g. absurd (omega (arith, refused-number p g .0))) (λ t y h. (t, y, h))
+        (λ t y h. absurd (omega (arith, short-number y h .0))) (λ t y h. absurd (omega (arith, taken-number y h .0))),
+    λ (t, y, h). many-number y h .0,
+  )
 
   -- 13, placed at p: the size is wrong and p is 0, or it is right, the string is no text, and p is where it stops being one.
   pub thirteen-iff : (p : ℕ) → ((r .number ≡ 13) × (r .place ≡ p)) ↔ (((Sized textMost text → ⊥) × (p ≡ 0)) ⊎ (Sized textMost text × (Text text → ⊥) × StopsAt text p))
-  thirteen-iff p = (λ (e, f). go (x .gets) e f, back) where
-    go : {n q : ℕ} {w : List ℕ} → Gets text (length rule) n q w → n ≡ 13 → q ≡ p
+  thirteen-iff p = (
+    λ (e, f). by-row (λ q g. cause g (sym (refused-number q g .1) ∙ f)) (λ t y h. absurd (omega (arith, many-number y h .0)))
+        (λ t y h. absurd (omega (arith, short-number y h .0))) (λ t y h. absurd (omega (arith, taken-number y h .0))),
+    back,
+  ) where
+    cause : {q : ℕ} {es : List Entry} → TextGets text (Refused 13 q) es → q ≡ p
         → ((Sized textMost text → ⊥) × (p ≡ 0)) ⊎ (Sized textMost text × (Text text → ⊥) × StopsAt text p)
-    go (bad-size h) e f = inl (h, sym f)
-    go (no-text z h k) e f = inr (z, h, rw f at k)
-    go (too-many y l) e f = absurd (omega arith)
-    go (no-room y l m) e f = absurd (omega arith)
-    go (taken y l m) e f = absurd (omega arith)
+    cause (bad-size h) f = inl (h, sym f)
+    cause (no-text z h k) f = inr (z, h, rw f at k)
 
     back : ((Sized textMost text → ⊥) × (p ≡ 0)) ⊎ (Sized textMost text × (Text text → ⊥) × StopsAt text p) → (r .number ≡ 13) × (r .place ≡ p)
-    back (inl (h, e)) = rw e (number-of 13 0 [] (bad-size h))
-    back (inr (z, h, k)) = number-of 13 p [] (no-text z h k)
+    back (inl (h, e)) = rw e (refused-number 0 (bad-size h))
+    back (inr (z, h, k)) = refused-number p (no-text z h k)
 
   -- A number other than 0 leaves every byte of the buffer as it was, and nothing is counted.
   pub refused-kept : (r .number ≡ 0 → ⊥) → (after ≡ rule) × (r .written ≡ 0)
-  refused-kept h = go (x .gets) refl (x .count) (x .buffer) where
-    go : {n p : ℕ} {w : List ℕ} → Gets text (length rule) n p w → r .number ≡ n → r .written ≡ length w → after ≡ w ++ drop (length w) rule
-        → (after ≡ rule) × (r .written ≡ 0)
-    go (bad-size k) e i j = (j, i)
-    go (no-text z k m) e i j = (j, i)
-    go (too-many y l) e i j = (j, i)
-    go (no-room y l m) e i j = (j, i)
-    go (taken y l m) e i j = absurd (h e)
+  refused-kept h =
+      by-row (λ p g. let (e, k) = refused-told p g in (k, ap (λ (q : PathReply). q .written) e))
+      (λ t y l. let (e, k) = many-told y l in (k, ap (λ (q : PathReply). q .written) e))
+      (λ t y l. let (e, k) = short-told y l in (k, ap (λ (q : PathReply). q .written) e)) (λ t y l. absurd (h (taken-number y l .0)))
 
   -- Only 13 has a place.
   pub place-zero : (r .number ≡ 13 → ⊥) → r .place ≡ 0
-  place-zero h = go (x .gets) refl refl where
-    go : {n p : ℕ} {w : List ℕ} → Gets text (length rule) n p w → r .number ≡ n → r .place ≡ p → r .place ≡ 0
-    go (bad-size k) e i = i
-    go (no-text z k m) e i = absurd (h e)
-    go (too-many y l) e i = i
-    go (no-room y l m) e i = i
-    go (taken y l m) e i = i
+  place-zero h =
+      by-row (λ p g. absurd (h (refused-number p g .0))) (λ t y l. many-number y l .1) (λ t y l. short-number y l .1) (λ t y l. taken-number y l .1)
+
+  -- What is taken stands at the front of the buffer.
+  pub taken-bytes : {t : Test} → TextOf text t → r .number ≡ 0 → (r .written ≡ length (bytesFor t)) × (after ≡ over (bytesFor t) rule)
+  taken-bytes {t} y e =
+      let (u, z, h) = zero-iff .0 e in
+      let (k, m) = taken-told z h in
+      let same = one-tree text z y in (ap (λ (q : PathReply). q .written) k ∙ rw same, m ∙ rw same)

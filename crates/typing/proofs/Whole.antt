@@ -1,10 +1,9 @@
 -- The whole rule: what the writer is given, and what it leaves. Assumes nothing.
 use Prim.Native.Nat.{ℕ, _≤_}
-use mathlib.Core.Path.{_≡_, refl, ap, _∙_}
-use mathlib.Core.List.{List, [], _++_}
+use mathlib.Core.Path.{_≡_, refl}
+use mathlib.Core.List.{List, []}
 use native.Mathlib.Nat.{zero-add}
-use lib.ListN.{length, drop}
-use lib.Seq.{sets, sets-eq}
+use lib.ListN.{length}
 use Rattle.grammar.specs.Rules.{ruleBytes}
 use Rattle.text.proofs.PutLaws.{put-none}
 use Rattle.paths.specs.Syntax.{Test}
@@ -12,7 +11,7 @@ use Rattle.paths.specs.Translation.{putT, tableOf}
 use Rattle.typing.specs.declared.put.Written.{Written}
 use Rattle.typing.specs.Writing.{Filled, Asks, Puts}
 use Rattle.terms.specs.Limits.{entriesMost}
-use Rattle.numbers.specs.Lists.{putAt}
+use Rattle.numbers.specs.Lists.{over}
 
 -- Nothing is written yet.
 abbrev pub nothing : Written
@@ -30,10 +29,6 @@ module _ (rule : List ℕ) (t : Test) where
   whole-asks few room = record { before = rule; es = []; filled = none-filled rule; few = few; room = room }
 
   -- The rule's bytes stand at the front of the buffer, and every byte past them as it was.
-  pub whole-puts : {after : List ℕ} {w : Written} → Puts (putT t) rule nothing after w → after ≡ sets rule 0 (ruleBytes (tableOf t))
-  unfolding putAt tableOf
+  pub whole-puts : {after : List ℕ} {w : Written} → Puts (putT t) rule nothing after w → after ≡ over (ruleBytes (tableOf t)) rule
+  unfolding tableOf
   whole-puts p = p .fills rule [] (none-filled rule) .bytes-are .bytes-are
-
--- The same, as the rule's bytes and behind them what the buffer held.
-pub front-is : (bytes rule : List ℕ) → length bytes ≤ length rule → sets rule 0 bytes ≡ bytes ++ drop (length bytes) rule
-front-is bytes rule h = sets-eq bytes rule 0 (rw zero-add h) ∙ ap (λ (k : ℕ). bytes ++ drop k rule) (zero-add (length bytes))

@@ -4,15 +4,26 @@
 -- Laws: proofs/Answered.antt (one result only; each number exactly when). Assumes nothing.
 use Prim.Native.Nat.{ℕ}
 use mathlib.Core.Path.{_≡_}
-use mathlib.Core.List.{List, _++_}
-use lib.ListN.{length, drop}
-use Rattle.paths.specs.Answer.{Gets}
+use mathlib.Core.List.{List}
+use lib.ListN.{length}
+use Rattle.numbers.specs.Lists.{over}
+use Rattle.terms.specs.Answer.{numberOf, placeOf, whereAccepted}
+use Rattle.terms.specs.declared.answer.Answer.{Answer}
+use Rattle.rules.specs.declared.rule.Entry.{Entry}
+use Rattle.grammar.specs.Rules.{ruleBytes}
+use Rattle.paths.specs.Answer.{TextGets, pathOutcome, bytesGiven}
 use Rattle.typing.specs.declared.export.PathReply.{PathReply}
 
--- The number and the place are what the text gets, where the buffer is the room; the bytes that it gets, none where it is refused,
--- stand at the front of the buffer, and every byte past them is as it was; and the answer counts them.
+-- What an outcome comes to, as plain numbers: its number and place, and how many of the rule's bytes are written, none where it is a
+-- refusal.
+abbrev pub replyOf : Answer → (bytes : List ℕ) → PathReply
+replyOf a bytes = record { number = numberOf a; place = placeOf a; written = length (whereAccepted a bytes) }
+
+-- The string gets an answer as a text, with entries. The reply is what that comes to, the buffer being the room; and the bytes that are
+-- given stand at the front of the buffer, and every byte past them is as it was.
 pub record Typed (text rule : List ℕ) (r : PathReply) (after : List ℕ) : Type 0 where
-  pub bytes : List ℕ
-  pub gets : Gets text (length rule) (r .number) (r .place) bytes
-  pub count : r .written ≡ length bytes
-  pub buffer : after ≡ bytes ++ drop (length bytes) rule
+  pub answer : Answer
+  pub entries : List Entry
+  pub gets : TextGets text answer entries
+  pub reply-is : r ≡ replyOf (pathOutcome answer entries (length rule)) (ruleBytes entries)
+  pub buffer : after ≡ over (bytesGiven answer entries (length rule)) rule

@@ -1,6 +1,8 @@
 // The call as C has it; include/polonezar.h declares it.
 ghost use mathlib.Core.Path.{_≡_};
-ghost use Rattle.typing.specs.Typed.{Typed};
+ghost use mathlib.Core.List.{[]};
+ghost use Rattle.terms.specs.declared.answer.Answer.the-variants.{Refused};
+ghost use Rattle.typing.specs.Typed.{replyOf, Typed};
 use crate::write::write_rule;
 use parse::tree::Outcome;
 use parse::tree::ROW_PLACES;
@@ -17,7 +19,7 @@ pub struct PathReply {
 
 // Nothing is written.
 fn refused(number: u32, place: u32) -> PathReply
-    ensures { λ r. ⌜ r ≡ record { number = number; place = place; written = 0 } ⌝ }
+    ensures { λ r. ⌜ r ≡ replyOf (Refused number place) [] ⌝ }
 {
     PathReply {
         number: number,

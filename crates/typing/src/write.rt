@@ -3,7 +3,7 @@
 ghost use mathlib.Core.Path.{_≡_};
 ghost use Prim.Native.Nat.{_≤_};
 ghost use lib.ListN.{length};
-ghost use lib.Seq.{sets};
+ghost use Rattle.numbers.specs.Lists.{over};
 ghost use Rattle.grammar.specs.Rules.{ruleBytes};
 ghost use Rattle.paths.specs.Syntax.{Test};
 ghost use Rattle.paths.specs.Translation.{tableOf};
@@ -110,7 +110,7 @@ fn write_step(rows: &[u16; ROW_PLACES], n: u16, rule: &mut [u8], w: Written) -> 
 // the rule keep their contents.
 pub(crate) fn write_rule(rows: &[u16; ROW_PLACES], n: usize, rule: &mut [u8])
     requires { ⌜ (n ≤ entriesMost) × ((t : Test) × HeldT (now rows) t n × (length (tableOf t) ≤ entriesMost) × (length (ruleBytes (tableOf t)) ≤ length (now rule))) ⌝ }
-    ensures { λ r. ⌜ ((t : Test) → HeldT (now (rows .entry)) t n → now (rule .exit) ≡ sets (now (rule .entry)) 0 (ruleBytes (tableOf t))) ⌝ }
+    ensures { λ r. ⌜ ((t : Test) → HeldT (now (rows .entry)) t n → now (rule .exit) ≡ over (ruleBytes (tableOf t)) (now (rule .entry))) ⌝ }
 {
     write(
         rows,
