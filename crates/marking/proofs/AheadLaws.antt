@@ -21,9 +21,10 @@ use Rattle.meaning.proofs.Ways.{at-iff}
 use Rattle.meaning.proofs.Tests.{ahead, at-told, some-told, bool-told}
 use Rattle.layout.specs.Links.{leads}
 use Rattle.marking.specs.Pass.{Passed, Room, bitsOf}
-use Rattle.marking.specs.Steps.{ownStep, givenStep, aheadMark, Nearest}
-use Rattle.marking.specs.declared.ahead.AskedAhead.{AskedAhead}
-use Rattle.marking.specs.declared.ahead.AskedAhead.the-variants.{Until, Every}
+use Rattle.marking.specs.Steps.{aheadMark, Nearest}
+use Rattle.steps.specs.Steps.{ownStep, givenStep}
+use Rattle.steps.specs.declared.ahead.AskedAhead.{AskedAhead}
+use Rattle.steps.specs.declared.ahead.AskedAhead.the-variants.{Until, Every}
 use Rattle.layout.proofs.LinkLaws.{getD-any, leads-at, leads-down, leads-number, number-leads, leads-finds}
 use Rattle.marking.proofs.PassLaws.{at-put, passed-start, passed-same, passed-bit, passed-under, passed-join, passed-set}
 use Rattle.marking.proofs.StepLaws.{at-leads, ahead-own, anyFrom, anyFrom-end, anyFrom-next, anyFrom-all}

@@ -29,7 +29,7 @@ use Rattle.meaning.proofs.Words.{words-length}
 use Rattle.layout.specs.Layout.{leastOf, roomIn, LaidOut}
 use Rattle.layout.proofs.LayoutLaws.{least-within, within-least, laid-room, ElementsLaid, elements-laid}
 use Rattle.marking.specs.Evaluation.{shortOfRoom, evaluationOf, meantWords, outcome, evaluation, wordsWritten, Evaluated, roomFor, ColumnsAfter, ReportMarked, MarkedBy}
-use Rattle.marking.specs.Pass.{Marked}
+use Rattle.marking.specs.Pass.{Columns, Marked}
 use Rattle.marking.specs.declared.report.Evaluation.{Evaluation}
 use Rattle.marking.specs.declared.report.Marking.{Marking}
 use Rattle.rules.specs.Entries.{EntriesTaken, entriesOf, flat}
@@ -75,6 +75,12 @@ pub held : {report labels levels ups lefts : List ℕ} (marks : List ℕ) {r : A
     → n ≤ room → ElementsLaid report n ls ds us fs
 held {labels = labels} {levels = levels} {ups = ups} {lefts = lefts} marks {n = n} laid e room is h =
     elements-laid laid e (room-for-within labels levels ups lefts marks n room is h .0)
+
+-- They are columns of the report's levels.
+pub columns-held : {report : List ℕ} {n : ℕ} {ls ds us fs : List ℕ} → ElementsLaid report n ls ds us fs
+    → Columns (take n ds) (take n ls) (take n us) (take n fs)
+columns-held {n = n} {ls = ls} {ds = ds} e =
+    record { legal = e .legal; linked = e .linked; long = length-take-le n ls (e .labels-room) ∙ sym (length-take-le n ds (e .levels-room)) }
 
 module _ (es : List Entry) {report labels levels ups lefts : List ℕ} (marks : List ℕ) {r : Answer} {ls ds us fs : List ℕ}
     (laid : LaidOut report labels levels ups lefts r ls ds us fs) where

@@ -5,13 +5,12 @@ use native.Mathlib.Decide.{decLt}
 use native.Mathlib.Numerals.{add-one}
 use native.Mathlib.Omega.{arith}
 use mathlib.Core.Path.{_≡_, refl, sym, ap, subst, _∙_}
-use mathlib.Core.Bool.{Bool, true, false, not, xor, _&&_, _||_}
+use mathlib.Core.Bool.{Bool, true, false}
 use mathlib.Core.List.{List}
 use lib.ListN.{length, getD, take}
 use lib.Seq.{ext-getD, take-at, take-suc}
 use Rattle.rules.specs.declared.rule.Entry.{Entry}
 use Rattle.terms.proofs.Rows.{numbers-are}
-use Rattle.grammar.specs.Legal.{LegalLevels}
 use Rattle.grammar.specs.Rules.{noEntry, RuleEntries}
 use Rattle.grammar.proofs.Entries.{formed-kind, formed-entries, formed-a, formed-b}
 use Rattle.numbers.proofs.Tells.{IsTest, test-same}
@@ -30,10 +29,11 @@ use Rattle.meaning.proofs.Reflect.{means-told}
 use Rattle.meaning.proofs.OneStep.{mark-rule, plain}
 use Rattle.meaning.proofs.Words.{words-length, words-at, selected-more}
 use Rattle.layout.specs.Links.{leads, Linked}
-use Rattle.marking.specs.Pass.{Stored, Passed, Room, bitsOf, Marked}
-use Rattle.marking.specs.Steps.{alongMark, columnOf, aheadMark, Nearest}
+use Rattle.marking.specs.Pass.{Stored, Passed, Room, Columns, bitsOf, Marked}
+use Rattle.marking.specs.Steps.{alongMark, aheadMark, Nearest}
+use Rattle.steps.specs.Steps.{columnOf}
 use Rattle.grammar.specs.Table.{entriesIn, entryIn}
-use Rattle.marking.specs.declared.ahead.AskedAhead.the-variants.{Every}
+use Rattle.steps.specs.declared.ahead.AskedAhead.the-variants.{Every}
 use Rattle.layout.proofs.LinkLaws.{ups-all, lefts-all, parent-next}
 use Rattle.marking.proofs.PassLaws.{stored-start, stored-same, passed-start}
 use Rattle.grammar.proofs.Table.{table-length, table-at}
@@ -45,32 +45,10 @@ use Rattle.numbers.proofs.BitLaws.{pred-sub, bit-small, word-bit, word-lt}
 
 -- ---- the table of passes
 
--- The gates of kinds 1, 3, 4 and 5.
-pub gate-always : (x : Bool) → xor (xor x false && xor x true) true ≡ true
-unfolding xor
-gate-always true = refl
-gate-always false = refl
+module _ {levels labels ups lefts : List ℕ} (columns : Columns levels labels ups lefts) where
+  abbrev linked : Linked levels ups lefts
+  linked = columns .linked
 
-pub gate-not : (x : Bool) → xor (xor x true && xor x true) false ≡ not x
-unfolding xor
-gate-not true = refl
-gate-not false = refl
-
-pub gate-or : (x y : Bool) → xor (xor x true && xor y true) true ≡ (x || y)
-unfolding xor
-gate-or true true = refl
-gate-or true false = refl
-gate-or false true = refl
-gate-or false false = refl
-
-pub gate-and : (x y : Bool) → xor (xor x false && xor y false) false ≡ (x && y)
-unfolding xor
-gate-and true true = refl
-gate-and true false = refl
-gate-and false true = refl
-gate-and false false = refl
-
-module _ {levels ups lefts : List ℕ} (linked : Linked levels ups lefts) (labels : List ℕ) where
   -- The column of an axis leads as the axis is found.
   column-all : (x : Axis) → (length (columnOf x ups lefts) ≡ length levels) × (leads (columnOf x ups lefts) ≡ link levels x)
   unfolding columnOf link
@@ -87,9 +65,9 @@ module _ {levels ups lefts : List ℕ} (linked : Linked levels ups lefts) (label
   column-leads previous = linked .lefts-lead .near
 
   -- So a pass along it has room where the elements have.
-  pub column-room : (x : Axis) (f : List ℕ) → f ≡ columnOf x ups lefts → {i : ℕ} {ws : List ℕ} → Room (length levels) i ws
+  pub column-room : (x : Axis) (f : List ℕ) → f ≡ columnOf x ups lefts → {i : ℕ} {ws : List ℕ} → Room (length labels) i ws
       → Room (length f) i ws × ((s : ℕ) → s < length f → getD f s 0 ≤ s)
-  column-room x f e room = rw (e, column-all x .0) (room, column-leads x)
+  column-room x f e room = rw (e, column-all x .0) (rw (columns .long) at room, column-leads x)
 
   -- A pass leaves what a shape means:
   abbrev Meant : (k : Shape) (a b i : ℕ) (before after : List ℕ) → Type 0
@@ -116,21 +94,21 @@ module _ {levels ups lefts : List ℕ} (linked : Linked levels ups lefts) (label
     passed-every e r = rw e (rw (column-all child .0, column-all child .1) at r)
 
     -- at the element alone,
-    pub passed-local : (asked : Local) → length labels ≡ length levels → k ≡ here asked
+    pub passed-local : (asked : Local) → k ≡ here asked
         → Passed (length labels) i (λ s. meansHere asked a (getD labels s 0) (bitsOf before a s) (bitsOf before b s)) before after
         → Meant k a b i before after
     unfolding means
-    passed-local asked q e r = rw e (rw q at r)
+    passed-local asked e r = rw e (rw (columns .long) at r)
 
   -- and nowhere, by doing nothing.
-  pub passed-nothing : {k : Shape} {i : ℕ} {before : List ℕ} (a b : ℕ) → Room (length levels) i before → k ≡ nothing → Meant k a b i before before
+  pub passed-nothing : {k : Shape} {i : ℕ} {before : List ℕ} (a b : ℕ) → Room (length labels) i before → k ≡ nothing → Meant k a b i before before
   unfolding means
-  passed-nothing a b room e = rw e (passed-start room)
+  passed-nothing a b room e = rw e (passed-start (rw (columns .long) at room))
 
   -- Parents are led to from the very next element.
-  pub ups-nearest : LegalLevels levels → Nearest Every ups
+  pub ups-nearest : Nearest Every ups
   unfolding Nearest
-  ups-nearest legal = rw (ups-all linked) (parent-next levels legal)
+  ups-nearest = rw (ups-all linked) (parent-next levels (columns .legal))
 
 -- ---- the entries
 
@@ -187,14 +165,14 @@ module _ (levels labels : List ℕ) (entries : List Entry) where
   words-start room =
       stored-same (length levels) _ (λ s l. let h = room .small s l in omega arith) (stored-start (length levels) _)
 
-  pub words-room : {i : ℕ} {before ws : List ℕ} → Room (length levels) 0 before → i < wordBits → Stored (length levels) (wordUpTo i) before ws
-      → Room (length levels) i ws
-  words-room {i} room l r =
+  pub words-room : {ups lefts : List ℕ} → Columns levels labels ups lefts → {i : ℕ} {before ws : List ℕ} → Room (length labels) 0 before → i < wordBits
+      → Stored (length levels) (wordUpTo i) before ws → Room (length labels) i ws
+  words-room columns {i} room l r =
       record {
         few = room .few;
         room = omega (arith, room .room, r .long);
         top = l;
-        small = λ s h. rw (r .put s h) (word-lt i _);
+        small = λ s h. rw (r .put s (omega (arith, columns .long))) (word-lt i _);
       }
 
   -- The words as the list that is promised.

@@ -1,5 +1,4 @@
 -- Laws that the functions' proofs cite, and those for the layers above. Read in this order.
-pub mod WordLaws
 pub mod PassLaws
 pub mod StepLaws
 pub mod AheadLaws

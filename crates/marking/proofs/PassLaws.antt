@@ -2,7 +2,7 @@
 -- Assumes nothing.
 use Prim.Native.Nat.{ℕ, _+_, _*_, _^_, _%_, _≤_, _<_}
 use native.Mathlib.Decide.{ℕ-discrete, decLt}
-use native.Mathlib.Nat.{zero-mul, zero-add}
+use native.Mathlib.Nat.{zero-mul, zero-add, mod-eq-of-lt}
 use native.Mathlib.Omega.{arith}
 use mathlib.Core.Path.{_≡_, refl, sym, ap, _∙_, subst}
 use mathlib.Core.Bool.{Bool, false, cond, _&&_, _||_}
@@ -15,7 +15,7 @@ use lib.Pow.{low}
 use lib.Seq.{getD-set-same, getD-set-other}
 use Rattle.marking.specs.Pass.{Stored, Passed, Room, bitsOf}
 use Rattle.terms.specs.Limits.{elementsMost}
-use Rattle.numbers.specs.Bits.{bit, bitAt}
+use Rattle.numbers.specs.Bits.{bit, bitAt, inWord}
 use Rattle.numbers.proofs.BitLaws.{bit-top, bit-under}
 use Rattle.numbers.proofs.Masks.{joined-bit}
 
@@ -77,6 +77,14 @@ clear-room few room r =
     record { few = few; room = omega (arith, r .long); top = omega arith; small = λ s l. rw (r .put s l) (omega arith) }
 
 -- ---- a pass for entry i
+
+-- Entry i names its own bit of a word,
+pub own-in : {n i : ℕ} {ws : List ℕ} → Room n i ws → inWord i ≡ i
+own-in room = mod-eq-of-lt (room .top)
+
+-- and so does an entry before it.
+pub earlier-in : {n i a : ℕ} {ws : List ℕ} → Room n i ws → a < i → inWord a ≡ a
+earlier-in room l = mod-eq-of-lt (omega (arith, l, room .top))
 
 module _ {n i : ℕ} {before : List ℕ} (room : Room n i before) where
   -- Before any store no bit i is set.

@@ -16,10 +16,11 @@ use Rattle.meaning.specs.Marks.{at, anyBelow, someOf, everyOf}
 use Rattle.meaning.proofs.Tests.{Finds, ahead, behind, bool-told, any-told, until-is}
 use Rattle.layout.specs.Links.{leads, leadsTo}
 use Rattle.marking.specs.Pass.{Passed, Room, bitsOf}
-use Rattle.marking.specs.Steps.{gateMark, backStep, alongMark, ownStep, givenStep, aheadMark}
-use Rattle.marking.specs.declared.ahead.AskedAhead.{AskedAhead}
-use Rattle.marking.specs.declared.ahead.AskedAhead.the-variants.{Until, Every}
-use Rattle.marking.specs.declared.local.Inverted.{Inverted}
+use Rattle.marking.specs.Steps.{alongMark, aheadMark}
+use Rattle.steps.specs.Steps.{gateMark, backStep, ownStep, givenStep}
+use Rattle.steps.specs.declared.ahead.AskedAhead.{AskedAhead}
+use Rattle.steps.specs.declared.ahead.AskedAhead.the-variants.{Until, Every}
+use Rattle.steps.specs.declared.gate.Gate.{Gate}
 use Rattle.layout.proofs.LinkLaws.{leads-at, leads-finds}
 use Rattle.marking.proofs.PassLaws.{before-only, ascent-word, passed-bit, passed-under}
 use Rattle.numbers.specs.Bits.{bitAt}
@@ -34,12 +35,11 @@ at-leads s number m = go (ltb number s) where
 -- ---- from the first element on
 
 -- What the pass of a gate reads at an element gives the element's mark.
-pub gate-turn : {n i : ℕ} {before after : List ℕ} (inverted : Inverted) (a b s : ℕ) → Room n i before → s < n
-    → Passed n i (before-only (λ s. gateMark inverted (bitsOf before a s) (bitsOf before b s)) s) before after
-    → gateMark inverted (bitAt (getD after s 0) a) (bitAt (getD after s 0) b) ≡ gateMark inverted (bitsOf before a s) (bitsOf before b s)
-gate-turn {n} {i} {before} {after} inverted a b s room l r =
-    ap (λ (w : ℕ). gateMark inverted (bitAt w a) (bitAt w b))
-    (ascent-word room (λ s. gateMark inverted (bitsOf before a s) (bitsOf before b s)) s l r)
+pub gate-turn : {n i : ℕ} {before after : List ℕ} (gate : Gate) (s : ℕ) → Room n i before → s < n
+    → Passed n i (before-only (λ s. gateMark gate (getD before s 0)) s) before after
+    → gateMark gate (getD after s 0) ≡ gateMark gate (getD before s 0)
+gate-turn {n} {i} {before} {after} gate s room l r =
+    ap (gateMark gate) (ascent-word room (λ s. gateMark gate (getD before s 0)) s l r)
 
 -- The mark is the step over the element's own bits and over bit a and the mark where F leads.
 back-own : {R : ℕ → ℕ → Type 0} {F : ℕ → Option ℕ} {n : ℕ} → Finds R F n → (until : Bool) (a b : ℕ → Bool) (s : ℕ) → s < n

@@ -7,7 +7,9 @@ use mathlib.Core.Bool.{Bool}
 use mathlib.Core.List.{List}
 use lib.ListN.{length, getD}
 use Rattle.rules.specs.declared.rule.Entry.{Entry}
+use Rattle.grammar.specs.Legal.{LegalLevels}
 use Rattle.meaning.specs.Marks.{words, selected}
+use Rattle.layout.specs.Links.{Linked}
 use Rattle.terms.specs.Limits.{elementsMost}
 use Rattle.numbers.specs.Lists.{over}
 use Rattle.numbers.specs.Bits.{bit, bitAt, wordBits}
@@ -28,6 +30,12 @@ pub record Room (n i : ℕ) (ws : List ℕ) : Type 0 where
   pub room : n ≤ length ws
   pub top : i < wordBits
   pub small : (s : ℕ) → s < n → getD ws s 0 < 2 ^ i
+
+-- The columns are those of a report whose elements have these levels.
+pub record Columns (levels labels ups lefts : List ℕ) : Type 0 where
+  pub legal : LegalLevels levels
+  pub linked : Linked levels ups lefts
+  pub long : length labels ≡ length levels
 
 -- Bit a of each word.
 abbrev pub bitsOf : List ℕ → ℕ → ℕ → Bool

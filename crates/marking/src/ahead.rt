@@ -1,64 +1,20 @@
 // Kinds 6, 8, 10, 12 and 14: what the elements after, whose column leads here, have given. Bit i of an
 // element's word says whether one of them gave: in a pass by turns only until the element's own.
-ghost use mathlib.Core.Path.{_≡_};
-ghost use mathlib.Core.Bool.{_&&_};
 ghost use Prim.Native.Nat.{ℕ, _≤_, _<_};
 ghost use lib.ListN.{length, getD};
 ghost use Rattle.meaning.specs.Tree.{forward};
 ghost use Rattle.meaning.specs.Marks.{someOf};
 ghost use Rattle.layout.specs.Links.{leads};
 ghost use Rattle.marking.specs.Pass.{Passed, Room, bitsOf};
-ghost use Rattle.marking.specs.Steps.{ownStep, givenStep, aheadMark, Nearest};
-use crate::word::bit_at;
-use crate::word::bit_where;
-use crate::word::put_bit;
-use crate::word::put_number;
-use crate::word::with_bit;
+ghost use Rattle.marking.specs.Steps.{aheadMark, Nearest};
 use numbers::bytes::wide;
-ghost use Rattle.numbers.specs.Bits.{bitAt, wordBits};
-
-// What is asked by turns of the elements ahead: a mark at the end of a way (kinds 10 and 12), at every
-// one of at least one (14).
-pub(crate) enum AskedAhead {
-    Until,
-    Every,
-}
-
-// An element's mark, by its bits.
-fn own_mark(asked: AskedAhead, a: bool, b: bool, gathered: bool, child: bool) -> bool
-    ensures { λ r. ⌜ r ≡ ownStep asked a b gathered child ⌝ }
-{
-    match asked {
-        AskedAhead::Until => b | (a & gathered),
-        AskedAhead::Every => child & !gathered,
-    }
-}
-
-// Whether an element gives to the one that its column leads to.
-fn given_mark(asked: AskedAhead, a: bool, own: bool) -> bool
-    ensures { λ r. ⌜ r ≡ givenStep asked a own ⌝ }
-{
-    match asked {
-        AskedAhead::Until => own,
-        AskedAhead::Every => !a,
-    }
-}
-
-// An element's mark, by its word.
-fn own_at(asked: AskedAhead, a: usize, b: usize, i: usize, child: bool, w: u64) -> bool
-    requires { ⌜ (a < wordBits) × (b < wordBits) × (i < wordBits) ⌝ }
-    ensures { λ r. ⌜ r ≡ ownStep asked (bitAt w a) (bitAt w b) (bitAt w i) child ⌝ }
-{
-    own_mark(asked, bit_at(w, a), bit_at(w, b), bit_at(w, i), child)
-}
-
-// Whether an element of the word w and the mark `own` gives, if its column leads on.
-fn given_at(asked: AskedAhead, a: usize, there: bool, own: bool, w: u64) -> bool
-    requires { ⌜ a < wordBits ⌝ }
-    ensures { λ r. ⌜ r ≡ (there && givenStep asked (bitAt w a) own) ⌝ }
-{
-    there & given_mark(asked, bit_at(w, a), own)
-}
+use steps::ahead::AskedAhead;
+use steps::ahead::given_at;
+use steps::ahead::own_at;
+use steps::word::bit_where;
+use steps::word::put_bit;
+use steps::word::put_number;
+use steps::word::with_bit;
 
 // Entry i at every element, by turns from the last on: each has gathered from all that lead to it before
 // its own turn. `next` is where the element after leads.

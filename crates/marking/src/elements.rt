@@ -1,17 +1,16 @@
 // The words of a report's elements.
 ghost use mathlib.Core.Path.{_≡_};
-ghost use Prim.Native.Nat.{_≤_, _<_};
+ghost use mathlib.Core.List.{List};
+ghost use Prim.Native.Nat.{ℕ, _≤_, _<_};
 ghost use lib.ListN.{length, take};
-ghost use Rattle.grammar.specs.Legal.{LegalLevels};
 ghost use Rattle.grammar.specs.Rules.{RuleEntries};
 ghost use Rattle.meaning.specs.Marks.{selected};
-ghost use Rattle.layout.specs.Links.{Linked};
-ghost use Rattle.marking.specs.Pass.{Stored, Marked};
+ghost use Rattle.marking.specs.Pass.{Stored, Columns, Marked};
 ghost use Rattle.grammar.specs.Table.{entriesIn};
 ghost use Rattle.terms.specs.Limits.{entriesMost};
 use crate::entry::mark_entries;
-use crate::word::bit_at;
 use rules::table::ENTRY_PLACES;
+use steps::word::bit_in;
 
 // Sets the first n words to 0.
 fn clear(marks: &mut [u64], n: usize)
@@ -33,7 +32,7 @@ fn count_selected(marks: &[u64], n: usize, entries: usize) -> usize
     let mut count: usize = 0;
     let mut s: usize = 0;
     while s < n {
-        count += bit_at(marks[s], entries - 1) as usize;
+        count += bit_in(marks[s], entries - 1) as usize;
         s += 1;
     }
     count
@@ -46,26 +45,16 @@ pub(crate) fn mark_elements<'a>(
     table: &[u16; ENTRY_PLACES],
     n: usize,
     labels: &[u16],
-    levels: &[u16],
     ups: &'a [u16],
     lefts: &'a [u16],
     marks: &mut [u64],
 ) -> usize
     requires { ⌜ RuleEntries (entriesIn entries (now table)) ⌝ }
-    requires { ⌜ LegalLevels (take n (now levels)) ⌝ }
-    requires { ⌜ Linked (take n (now levels)) (take n (now ups)) (take n (now lefts)) ⌝ }
-    requires { ⌜ (n ≤ length (now labels)) × (n ≤ length (now levels)) × (n ≤ length (now ups)) × (n ≤ length (now lefts)) × (n ≤ length (now marks)) ⌝ }
-    ensures { λ r. ⌜ Marked (entriesIn entries (now (table .entry))) (take n (now (levels .entry))) (take n (now (labels .entry))) (now (marks .entry)) r (now (marks .exit)) ⌝ }
+    requires { ⌜ ((levels : List ℕ) × Columns levels (take n (now labels)) (take n (now ups)) (take n (now lefts))) ⌝ }
+    requires { ⌜ (n ≤ length (now labels)) × (n ≤ length (now ups)) × (n ≤ length (now lefts)) × (n ≤ length (now marks)) ⌝ }
+    ensures { λ r. ⌜ ((levels : List ℕ) → Columns levels (take n (now (labels .entry))) (take n (now (ups .entry))) (take n (now (lefts .entry))) → Marked (entriesIn entries (now (table .entry))) levels (take n (now (labels .entry))) (now (marks .entry)) r (now (marks .exit))) ⌝ }
 {
     clear(marks, n);
-    mark_entries(
-        entries,
-        table,
-        &labels[..n],
-        &levels[..n],
-        &ups[..n],
-        &lefts[..n],
-        marks,
-    );
+    mark_entries(entries, table, &labels[..n], &ups[..n], &lefts[..n], marks);
     count_selected(marks, n, entries)
 }

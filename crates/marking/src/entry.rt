@@ -1,40 +1,29 @@
 // The entries of a rule, one pass each.
 ghost use mathlib.Core.Path.{_≡_};
+ghost use mathlib.Core.List.{List};
 ghost use Prim.Native.Nat.{ℕ, _≤_, _<_};
 ghost use lib.ListN.{length, getD};
-ghost use Rattle.grammar.specs.Legal.{LegalLevels};
 ghost use Rattle.grammar.specs.Rules.{RuleEntries};
 ghost use Rattle.terms.specs.Kinds.{numbersOf};
 ghost use Rattle.terms.specs.declared.kind.Numbers.the-variants.{Entries};
 ghost use Rattle.meaning.specs.Tree.{direction};
 ghost use Rattle.meaning.specs.Marks.{means, wordOf};
-ghost use Rattle.layout.specs.Links.{leads, Linked};
-ghost use Rattle.marking.specs.Pass.{Passed, Stored, Room, bitsOf};
-ghost use Rattle.marking.specs.Steps.{alongMark, columnOf};
+ghost use Rattle.layout.specs.Links.{leads};
+ghost use Rattle.marking.specs.Pass.{Passed, Stored, Room, Columns, bitsOf};
+ghost use Rattle.marking.specs.Steps.{alongMark};
 ghost use Rattle.grammar.specs.Table.{entriesIn};
-use crate::ahead::AskedAhead;
 use crate::ahead::gather_pass;
 use crate::ahead::turn_pass;
 use crate::back::back_pass;
 use crate::local::local_pass;
 use numbers::bytes::wide;
 use rules::table::ENTRY_PLACES;
+use steps::ahead::AskedAhead;
+use steps::column::column;
 use terms::kind::Axis;
 use terms::kind::Shape;
 use terms::kind::leads_back;
 use terms::kind::row_of;
-
-// The column of an axis: where each element's parent is, or its previous sibling.
-fn column<'a>(x: Axis, ups: &'a [u16], lefts: &'a [u16]) -> &'a [u16]
-    ensures { λ r. ⌜ now r ≡ columnOf x (now (ups .entry)) (now (lefts .entry)) ⌝ }
-{
-    match x {
-        Axis::Child => ups,
-        Axis::Parent => ups,
-        Axis::Next => lefts,
-        Axis::Previous => lefts,
-    }
-}
 
 // Entry i at every element along an axis, by its column: at some neighbour, or at the end of a way. What
 // is back goes from the first element on; ahead, ways go from the last on.
@@ -55,24 +44,21 @@ fn along_pass(until: bool, x: Axis, a: usize, b: usize, i: usize, f: &[u16], mar
     }
 }
 
-// Entry i at every element, by its shape. The levels are what the promise speaks of.
+// Entry i at every element, by its shape: whatever levels the columns are of.
 fn mark_entry<'a>(
     shape: Shape,
     a: usize,
     b: usize,
     i: usize,
     labels: &[u16],
-    levels: &[u16],
     ups: &'a [u16],
     lefts: &'a [u16],
     marks: &mut [u64],
 )
     requires { ⌜ (numbersOf shape ≡ Entries → (a < i) × (b < i)) ⌝ }
-    requires { ⌜ Room (length (now levels)) i (now marks) ⌝ }
-    requires { ⌜ LegalLevels (now levels) ⌝ }
-    requires { ⌜ Linked (now levels) (now ups) (now lefts) ⌝ }
-    requires { ⌜ length (now labels) ≡ length (now levels) ⌝ }
-    ensures { λ _. ⌜ Passed (length (now (levels .entry))) i (means (now (levels .entry)) (now (labels .entry)) shape a (bitsOf (now (marks .entry)) a) (bitsOf (now (marks .entry)) b)) (now (marks .entry)) (now (marks .exit)) ⌝ }
+    requires { ⌜ Room (length (now labels)) i (now marks) ⌝ }
+    requires { ⌜ ((levels : List ℕ) × Columns levels (now labels) (now ups) (now lefts)) ⌝ }
+    ensures { λ _. ⌜ ((levels : List ℕ) → Columns levels (now (labels .entry)) (now (ups .entry)) (now (lefts .entry)) → Passed (length levels) i (means levels (now (labels .entry)) shape a (bitsOf (now (marks .entry)) a) (bitsOf (now (marks .entry)) b)) (now (marks .entry)) (now (marks .exit))) ⌝ }
 {
     match shape {
         Shape::Nothing => {}
@@ -88,17 +74,14 @@ pub(crate) fn mark_entries<'a>(
     entries: usize,
     table: &[u16; ENTRY_PLACES],
     labels: &[u16],
-    levels: &[u16],
     ups: &'a [u16],
     lefts: &'a [u16],
     marks: &mut [u64],
 )
     requires { ⌜ RuleEntries (entriesIn entries (now table)) ⌝ }
-    requires { ⌜ LegalLevels (now levels) ⌝ }
-    requires { ⌜ Linked (now levels) (now ups) (now lefts) ⌝ }
-    requires { ⌜ length (now labels) ≡ length (now levels) ⌝ }
-    requires { ⌜ Room (length (now levels)) 0 (now marks) ⌝ }
-    ensures { λ _. ⌜ Stored (length (now (levels .entry))) (wordOf (entriesIn entries (now (table .entry))) (now (levels .entry)) (now (labels .entry))) (now (marks .entry)) (now (marks .exit)) ⌝ }
+    requires { ⌜ Room (length (now labels)) 0 (now marks) ⌝ }
+    requires { ⌜ ((levels : List ℕ) × Columns levels (now labels) (now ups) (now lefts)) ⌝ }
+    ensures { λ _. ⌜ ((levels : List ℕ) → Columns levels (now (labels .entry)) (now (ups .entry)) (now (lefts .entry)) → Stored (length levels) (wordOf (entriesIn entries (now (table .entry))) levels (now (labels .entry))) (now (marks .entry)) (now (marks .exit))) ⌝ }
 {
     let mut i: usize = 0;
     while i < entries {
@@ -110,7 +93,6 @@ pub(crate) fn mark_entries<'a>(
             wide(table[3 * i + 2]),
             i,
             labels,
-            levels,
             ups,
             lefts,
             marks,

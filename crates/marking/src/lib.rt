@@ -7,4 +7,3 @@ mod elements;
 mod entry;
 mod local;
 pub mod report;
-mod word;

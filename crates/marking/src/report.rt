@@ -64,7 +64,7 @@ fn mark_by_entries(
             if least(columns, marks.len()) < n {
                 return refuse(9, 0);
             }
-            let selected = mark_elements(entries, table, n, labels, levels, ups, lefts, marks);
+            let selected = mark_elements(entries, table, n, labels, ups, lefts, marks);
             Evaluation {
                 number: 0,
                 place: 0,

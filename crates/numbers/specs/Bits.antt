@@ -8,6 +8,10 @@ use lib.Dec.{eqb}
 abbrev pub wordBits : ℕ
 wordBits = 64
 
+-- The bit that a number names, where numbers count round the bits of a word.
+abbrev pub inWord : ℕ → ℕ
+inWord a = a % wordBits
+
 -- A number's bit.
 abbrev pub bit : Bool → ℕ
 bit true = 1

@@ -1,8 +1,10 @@
 -- `gather_pass`: the elements passed have given to those that they lead to. Assumes nothing.
 use Prim.Native.Nat.{_≤_, _-_}
+use native.Mathlib.Nat.{mod-eq-of-lt}
 use lib.ListN.{length}
 use Rattle.marking.specs.Pass.{Passed}
 use Rattle.marking.proofs.AheadLaws.{given-by, gather-start, gather-turn, gather-end}
+use Rattle.marking.proofs.PassLaws.{own-in, earlier-in}
 use borrow.Author.Needs.{needs}
 use native.Mathlib.Omega.{arith}
 use Rattle.marking.proofs.ahead.gather_pass.Statement.{statement}
@@ -33,7 +35,7 @@ slice-read-bit-where : tie.Need-slice-read-bit-where Inv-loop μ-loop
 slice-read-bit-where c = omega arith
 
 bit-where-requires : tie.Need-bit-where-requires Inv-loop μ-loop
-bit-where-requires c κs = omega arith
+bit-where-requires c κs = search needs
 
 mul-put-number : tie.Need-mul-put-number Inv-loop μ-loop
 mul-put-number c = omega (arith, c .before .before .wide .ensures .0, c .before .before .before .before .before .before .before .before .pre .1 .1 (c .before .before .before .before .before .loop .s) (c .before .before .before .before .loop-test .taken))
@@ -42,7 +44,7 @@ slice-read-put-number : tie.Need-slice-read-put-number Inv-loop μ-loop
 slice-read-put-number c = omega (arith, c .before .before .before .wide .ensures .0, c .before .before .before .before .before .before .before .before .before .pre .1 .1 (c .before .before .before .before .before .before .loop .s) (c .before .before .before .before .before .loop-test .taken))
 
 put-number-requires : tie.Need-put-number-requires Inv-loop μ-loop
-put-number-requires c κs = (omega arith, c .before .bit-where .ensures .1)
+put-number-requires c κs = search needs
 
 mul-marks : tie.Need-mul-marks Inv-loop μ-loop
 mul-marks c = omega (arith, c .before .before .before .before .wide .ensures .0, c .before .before .before .before .before .before .before .before .before .before .pre .1 .1 (c .before .before .before .before .before .before .before .loop .s) (c .before .before .before .before .before .before .loop-test .taken))
@@ -62,7 +64,7 @@ loop-again c =
     let pre = c .before .before .before .before .before .before .before .before .before .before .pre in
     let t = c .before .before .before .before .before .before .loop-test .taken in (
       omega arith,
-      rw (c .put-number .ensures, c .before .before .bit-where .ensures .0, c .before .before .before .before .wide .ensures .0)
+      rw (c .put-number .ensures, mod-eq-of-lt (c .before .before .bit-where .ensures .1), c .before .before .bit-where .ensures .0, c .before .before .before .before .wide .ensures .0, own-in (pre .1 .0), earlier-in (pre .1 .0) (pre .0))
           (gather-turn _ _ _ (pre .1 .0) (pre .0) (l .s) t (pre .1 .1 (l .s) t) (l .inv .1)),
     )
 

@@ -3,6 +3,7 @@ use Prim.Native.Nat.{_<_, _-_}
 use mathlib.Core.Path.{_≡_}
 use lib.ListN.{length, length-set}
 use Rattle.marking.proofs.AheadLaws.{AheadMid, ahead-start, ahead-before, ahead-turn, ahead-end}
+use Rattle.marking.proofs.PassLaws.{own-in, earlier-in}
 use borrow.Author.Needs.{needs}
 use native.Mathlib.Omega.{arith}
 use Rattle.marking.proofs.ahead.turn_pass.Statement.{statement}
@@ -27,10 +28,10 @@ slice-read-w : tie.Need-slice-read-w Inv-loop μ-loop
 slice-read-w c = omega arith
 
 own-at-requires : tie.Need-own-at-requires Inv-loop μ-loop
-own-at-requires c κs = omega arith
+own-at-requires c κs = search needs
 
 with-bit-requires : tie.Need-with-bit-requires Inv-loop μ-loop
-with-bit-requires c κs = omega arith
+with-bit-requires c κs = search needs
 
 mul-marks : tie.Need-mul-marks Inv-loop μ-loop
 mul-marks c = omega arith
@@ -48,7 +49,7 @@ wide-requires : tie.Need-wide-requires Inv-loop μ-loop
 wide-requires c κs = search needs
 
 given-at-requires : tie.Need-given-at-requires Inv-loop μ-loop
-given-at-requires c κs = omega arith
+given-at-requires c κs = search needs
 
 mul-put-bit : tie.Need-mul-put-bit Inv-loop μ-loop
 mul-put-bit c = omega (arith, c .before .wide .ensures .0, c .before .before .before .before .before .before .before .before .before .before .pre .1 .1 .0 (c .before .before .before .before .before .before .before .loop .t - 1) (omega arith))
@@ -57,7 +58,7 @@ slice-read-put-bit : tie.Need-slice-read-put-bit Inv-loop μ-loop
 slice-read-put-bit c = simp length-set (omega (arith, c .before .before .wide .ensures .0, c .before .before .before .before .before .before .before .before .before .before .before .pre .1 .1 .0 (c .before .before .before .before .before .before .before .before .loop .t - 1) (omega arith)))
 
 put-bit-requires : tie.Need-put-bit-requires Inv-loop μ-loop
-put-bit-requires c κs = omega arith
+put-bit-requires c κs = search needs
 
 mul-marks-2 : tie.Need-mul-marks-2 Inv-loop μ-loop
 mul-marks-2 c = omega (arith, c .before .before .before .wide .ensures .0, c .before .before .before .before .before .before .before .before .before .before .before .before .pre .1 .1 .0 (c .before .before .before .before .before .before .before .before .before .loop .t - 1) (omega arith))
@@ -73,7 +74,7 @@ loop-again c =
     let l = c .before .before .before .before .before .before .before .before .before .loop in
     let pre = c .before .before .before .before .before .before .before .before .before .before .before .before .pre in
     let h : l .t - 1 < length (c .before .before .before .before .before .before .before .before .before .before .before .before .args .f .now) = omega arith in
-    rw (c .put-bit .ensures, c .before .before .given-at .ensures, c .before .before .before .before .before .with-bit .ensures, c .before .before .before .before .before .before .own-at .ensures, c .before .before .before .wide .ensures .0)
+    rw (c .put-bit .ensures, c .before .before .given-at .ensures, c .before .before .before .before .before .with-bit .ensures, c .before .before .before .before .before .before .own-at .ensures, c .before .before .before .wide .ensures .0, own-in (pre .1 .0), earlier-in (pre .1 .0) (pre .0 .0), earlier-in (pre .1 .0) (pre .0 .1))
     (ahead-turn _ _ _ _ _ (pre .1 .0) (pre .0 .0) (pre .0 .1) (pre .1 .1 .1) (l .t - 1) h (ahead-before _ _ _ _ _ (omega arith) (l .inv)) (pre .1 .1 .0 (l .t - 1) h))
 
 same-length : tie.Need-same-length Inv-loop μ-loop

@@ -5,7 +5,7 @@ use Rattle.meaning.specs.Tree.{backward}
 use Rattle.layout.specs.Links.{leads}
 use Rattle.marking.specs.Pass.{Passed, bitsOf}
 use Rattle.marking.specs.Steps.{alongMark}
-use Rattle.marking.proofs.PassLaws.{before-only, ascent-start, ascent-turn, ascent-end}
+use Rattle.marking.proofs.PassLaws.{before-only, ascent-start, ascent-turn, ascent-end, own-in, earlier-in}
 use Rattle.marking.proofs.StepLaws.{back-turn}
 use borrow.Author.Needs.{needs}
 use native.Mathlib.Omega.{arith}
@@ -44,7 +44,7 @@ slice-read-back-word-2 : tie.Need-slice-read-back-word-2 Inv-loop μ-loop
 slice-read-back-word-2 c = omega arith
 
 back-word-requires : tie.Need-back-word-requires Inv-loop μ-loop
-back-word-requires c κs = omega arith
+back-word-requires c κs = search needs
 
 mul-marks : tie.Need-mul-marks Inv-loop μ-loop
 mul-marks c = omega arith
@@ -64,7 +64,7 @@ loop-again c =
     let pre = c .before .before .before .before .before .before .before .before .before .pre in
     let t = c .before .before .before .before .before .loop-test .taken in (
       omega arith,
-      rw (c .back-word .ensures, c .before .before .before .wide .ensures .0)
+      rw (c .back-word .ensures, c .before .before .before .wide .ensures .0, own-in (pre .1 .0), earlier-in (pre .1 .0) (pre .0 .0), earlier-in (pre .1 .0) (pre .0 .1))
           (ascent-turn (pre .1 .0) _ (l .s) _ t (back-turn (c .before .before .before .before .before .before .before .before .before .args .f .now) _ _ _ (l .s) (pre .1 .0) (pre .0 .0) (pre .0 .1) t (pre .1 .1 (l .s) t) (l .inv .1)) (l .inv .1)),
     )
 

@@ -1,5 +1,6 @@
 -- `count_selected`: the words passed are counted. Assumes nothing.
-use Prim.Native.Nat.{_≤_, _-_}
+use Prim.Native.Nat.{_≤_, _<_, _-_}
+use native.Mathlib.Nat.{mod-eq-of-lt}
 use lib.ListN.{take}
 use mathlib.Core.Path.{_≡_}
 use Rattle.meaning.specs.Marks.{selected}
@@ -19,17 +20,17 @@ loop-holds : tie.Need-loop-holds Inv-loop μ-loop
 unfolding selected
 loop-holds c = search needs
 
-mul-bit-at : tie.Need-mul-bit-at Inv-loop μ-loop
-mul-bit-at c = omega arith
+mul-bit-in : tie.Need-mul-bit-in Inv-loop μ-loop
+mul-bit-in c = omega arith
 
-shared-slice-read-bit-at : tie.Need-shared-slice-read-bit-at Inv-loop μ-loop
-shared-slice-read-bit-at c = omega arith
+shared-slice-read-bit-in : tie.Need-shared-slice-read-bit-in Inv-loop μ-loop
+shared-slice-read-bit-in c = omega arith
 
-sub-bit-at : tie.Need-sub-bit-at Inv-loop μ-loop
-sub-bit-at c = omega arith
+sub-bit-in : tie.Need-sub-bit-in Inv-loop μ-loop
+sub-bit-in c = omega arith
 
-bit-at-requires : tie.Need-bit-at-requires Inv-loop μ-loop
-bit-at-requires c κs = omega arith
+bit-in-requires : tie.Need-bit-in-requires Inv-loop μ-loop
+bit-in-requires c κs = search needs
 
 cast-count : tie.Need-cast-count Inv-loop μ-loop
 cast-count c = search needs
@@ -38,7 +39,8 @@ add-count : tie.Need-add-count Inv-loop μ-loop
 add-count c =
     let l = c .before .before .before .loop in
     let r = count-turn (c .before .before .before .before .before .args .entries) (l .s) (l .count) (c .before .before .before .before .before .args .marks .now) (omega arith) (l .inv .1) (l .inv .2) in
-    rw (c .bit-at .ensures) (omega (arith, r .1))
+    let in-word : c .before .before .before .before .before .args .entries - 1 < 64 = omega (arith, c .before .before .before .before .before .pre) in
+    rw (c .bit-in .ensures, mod-eq-of-lt in-word) (omega (arith, r .1))
 
 add-s : tie.Need-add-s Inv-loop μ-loop
 add-s c = omega arith
@@ -50,7 +52,8 @@ loop-again : tie.Need-loop-again Inv-loop μ-loop
 loop-again c =
     let l = c .before .before .before .loop in
     let r = count-turn (c .before .before .before .before .before .args .entries) (l .s) (l .count) (c .before .before .before .before .before .args .marks .now) (omega arith) (l .inv .1) (l .inv .2) in
-    rw (c .bit-at .ensures) (omega arith, r .0, r .1)
+    let in-word : c .before .before .before .before .before .args .entries - 1 < 64 = omega (arith, c .before .before .before .before .before .pre) in
+    rw (c .bit-in .ensures, mod-eq-of-lt in-word) (omega arith, r .0, r .1)
 
 returns : tie.Need-returns Inv-loop μ-loop
 returns c =
@@ -64,10 +67,10 @@ count-selected-spec =
     Inv-loop
     μ-loop
     loop-holds
-    mul-bit-at
-    shared-slice-read-bit-at
-    sub-bit-at
-    bit-at-requires
+    mul-bit-in
+    shared-slice-read-bit-in
+    sub-bit-in
+    bit-in-requires
     cast-count
     add-count
     add-s

@@ -1,8 +1,9 @@
 -- `gate_pass`: the elements passed have their marks. Assumes nothing.
 use Prim.Native.Nat.{_≤_, _-_}
-use Rattle.marking.specs.Pass.{Passed, bitsOf}
-use Rattle.marking.specs.Steps.{gateMark}
-use Rattle.marking.proofs.PassLaws.{before-only, ascent-start, ascent-turn, ascent-end}
+use lib.ListN.{getD}
+use Rattle.marking.specs.Pass.{Passed}
+use Rattle.steps.specs.Steps.{gateMark}
+use Rattle.marking.proofs.PassLaws.{before-only, ascent-start, ascent-turn, ascent-end, own-in}
 use Rattle.marking.proofs.StepLaws.{gate-turn}
 use borrow.Author.Needs.{needs}
 use native.Mathlib.Omega.{arith}
@@ -10,14 +11,13 @@ use Rattle.marking.proofs.local.gate_pass.Statement.{statement}
 use Rattle.marking.proofs.local.gate_pass.Tie as tie
 
 abbrev Inv-loop : tie.InvT-loop
-Inv-loop inverted a b i n marks₀ s₀ marks s =
-    (s ≤ n) × Passed n i (before-only (λ s. gateMark inverted (bitsOf marks₀ a s) (bitsOf marks₀ b s)) s) marks₀ marks
+Inv-loop gate i n marks₀ s₀ marks s = (s ≤ n) × Passed n i (before-only (λ s. gateMark gate (getD marks₀ s 0)) s) marks₀ marks
 
 abbrev μ-loop : tie.MeasureT-loop
-μ-loop inverted a b i n marks₀ s₀ marks s = n - s
+μ-loop gate i n marks₀ s₀ marks s = n - s
 
 loop-holds : tie.Need-loop-holds Inv-loop μ-loop
-loop-holds c = (omega arith, ascent-start (c .before .pre .1) _)
+loop-holds c = (omega arith, ascent-start (c .before .pre) _)
 
 mul-w : tie.Need-mul-w Inv-loop μ-loop
 mul-w c = omega arith
@@ -47,18 +47,18 @@ loop-again : tie.Need-loop-again Inv-loop μ-loop
 loop-again c =
     let l = c .before .before .before .before .loop in
     let p = c .before .before .before .before .before .before .args in
-    let room = c .before .before .before .before .before .before .pre .1 in
+    let room = c .before .before .before .before .before .before .pre in
     let t = c .before .before .before .loop-test .taken in (
       omega arith,
-      rw (c .put-bit .ensures, c .before .gate-mark .ensures)
-          (ascent-turn room _ (l .s) _ t (gate-turn (p .inverted) (p .a) (p .b) (l .s) room t (l .inv .1)) (l .inv .1)),
+      rw (c .put-bit .ensures, c .before .gate-mark .ensures, own-in room)
+          (ascent-turn room _ (l .s) _ t (gate-turn (p .gate) (l .s) room t (l .inv .1)) (l .inv .1)),
     )
 
 same-length : tie.Need-same-length Inv-loop μ-loop
 same-length c = search needs
 
 returns : tie.Need-returns Inv-loop μ-loop
-returns c = ascent-end (c .before .before .before .pre .1) _ (c .before .loop .s) (c .loop-test .left) (c .before .loop .inv .1)
+returns c = ascent-end (c .before .before .before .pre) _ (c .before .loop .s) (c .loop-test .left) (c .before .loop .inv .1)
 
 pub gate-pass-spec : {M : Type 1} → statement M
 gate-pass-spec =

@@ -4,7 +4,7 @@ use mathlib.Core.Path.{refl}
 use lib.Dec.{eqb}
 use lib.ListN.{length, getD}
 use Rattle.marking.specs.Pass.{Passed}
-use Rattle.marking.proofs.PassLaws.{before-only, ascent-start, ascent-turn, ascent-end}
+use Rattle.marking.proofs.PassLaws.{before-only, ascent-start, ascent-turn, ascent-end, own-in}
 use borrow.Author.Needs.{needs}
 use native.Mathlib.Omega.{arith}
 use Rattle.marking.proofs.local.label_pass.Statement.{statement}
@@ -55,7 +55,7 @@ loop-again c =
     let l = c .before .before .before .before .before .loop in
     let room = c .before .before .before .before .before .before .before .before .pre in
     let t = c .before .before .before .before .loop-test .taken in
-    (omega arith, rw (c .put-bit .ensures, c .before .before .wide .ensures .0) (ascent-turn room _ (l .s) _ t refl (l .inv .1)))
+    (omega arith, rw (c .put-bit .ensures, c .before .before .wide .ensures .0, own-in room) (ascent-turn room _ (l .s) _ t refl (l .inv .1)))
 
 same-length : tie.Need-same-length Inv-loop μ-loop
 same-length c = search needs

@@ -3,11 +3,16 @@ use native.Mathlib.Omega.{arith}
 use mathlib.Core.Path.{sym, ap, refl, _∙_}
 use Rattle.terms.specs.Answer.{placeOf}
 use Rattle.layout.specs.Layout.{roomIn}
-use Rattle.marking.proofs.AnswerLaws.{room-for-is, room-for-within, by-refused, by-short, by-room, held, marked-few}
+use Rattle.marking.proofs.AnswerLaws.{room-for-is, room-for-within, by-refused, by-short, by-room, held, columns-held, marked-few}
 use Rattle.reports.proofs.ElementLaws.{report-small}
 use borrow.Author.Needs.{needs}
 use Rattle.marking.proofs.report.mark_by_entries.Statement.{statement}
 use Rattle.marking.proofs.report.mark_by_entries.Tie as tie
+use Rattle.layout.proofs.columns.least.Reads as least-reads
+use Rattle.layout.proofs.columns.least_of_four.Reads as least-of-four-reads
+use Rattle.layout.proofs.layout.lay_out.Reads as lay-out-reads
+use Rattle.marking.proofs.elements.mark_elements.Reads as mark-elements-reads
+use Rattle.marking.proofs.report.refuse.Reads as refuse-reads
 
 lay-out-requires : tie.Need-lay-out-requires
 lay-out-requires c κs = search needs
@@ -45,25 +50,24 @@ returns c =
 mark-elements-requires : tie.Need-mark-elements-requires
 unfolding roomIn
 mark-elements-requires c κs =
-    let p = c .before .before .before .before .before .before .before .before .before .before .before .before .before .before .before .before .before .before .before .before .before .before .before .before .before .before .before .before .before .before .args in
-    let is = room-for-is (c .before .before .before .before .before .before .before .before .before .before .before .before .before .before .before .before .before .before .before .before .before .before .before .before .before .before .before .before .before .before .args .marks .now) (c .before .before .before .before .before .before .before .before .before .before .before .before .before .before .before .before .before .before .before .lay-out .ensures) _ _ (c .before .before .before .before .before .before .before .least-of-four .ensures) (c .before .before .before .before .before .before .least .ensures) in
-    let h = c .before .before .before .before .before .if1 .left in
-    let e = held (p .marks .now) (c .before .before .before .before .before .before .before .before .before .before .before .before .before .before .before .before .before .before .before .lay-out .ensures) (c .before .before .before .before .before .before .before .before .before .n .given .1) _ is h in
-    let room = room-for-within (p .labels .now) (p .levels .now) (p .ups .now) (p .lefts .now) (p .marks .now) _ _ is h in
-    (c .before .before .before .before .before .before .before .before .before .before .before .before .before .before .before .before .before .before .before .before .before .before .before .before .before .before .before .before .before .before .pre, (e .legal, (e .linked, (e .labels-room, e .levels-room, e .ups-room, e .lefts-room, room .1))))
+    let p = c .before .before .before .before .before .before .before .before .before .before .before .before .before .before .before .before .before .before .before .before .before .before .before .before .before .before .before .before .before .args in
+    let is = room-for-is (c .before .before .before .before .before .before .before .before .before .before .before .before .before .before .before .before .before .before .before .before .before .before .before .before .before .before .before .before .before .args .marks .now) (c .before .before .before .before .before .before .before .before .before .before .before .before .before .before .before .before .before .before .lay-out .ensures) _ _ (c .before .before .before .before .before .before .least-of-four .ensures) (c .before .before .before .before .before .least .ensures) in
+    let e = held (c .before .before .before .before .before .before .before .before .before .before .before .before .before .before .before .before .before .before .before .before .before .before .before .before .before .before .before .before .before .args .marks .now) (c .before .before .before .before .before .before .before .before .before .before .before .before .before .before .before .before .before .before .lay-out .ensures) (c .before .before .before .before .before .before .before .before .n .given .1) _ is (c .before .before .before .before .if1 .left) in
+    let room = room-for-within (p .labels .now) (p .levels .now) (p .ups .now) (p .lefts .now) (p .marks .now) _ _ is (c .before .before .before .before .if1 .left) in
+    (c .before .before .before .before .before .before .before .before .before .before .before .before .before .before .before .before .before .before .before .before .before .before .before .before .before .before .before .before .before .pre, ((_, columns-held e), (e .labels-room, e .ups-room, e .lefts-room, room .1)))
 
-cast-t39 : tie.Need-cast-t39
+cast-t37 : tie.Need-cast-t37
 unfolding roomIn
-cast-t39 c =
-    let is = room-for-is (c .before .before .before .before .before .before .before .before .before .before .before .before .before .before .before .before .before .before .before .before .before .before .before .before .before .before .before .before .before .before .before .before .before .args .marks .now) (c .before .before .before .before .before .before .before .before .before .before .before .before .before .before .before .before .before .before .before .before .before .before .lay-out .ensures) _ _ (c .before .before .before .before .before .before .before .before .before .before .least-of-four .ensures) (c .before .before .before .before .before .before .before .before .before .least .ensures) in
-    let e = held (c .before .before .before .before .before .before .before .before .before .before .before .before .before .before .before .before .before .before .before .before .before .before .before .before .before .before .before .before .before .before .before .before .before .args .marks .now) (c .before .before .before .before .before .before .before .before .before .before .before .before .before .before .before .before .before .before .before .before .before .before .lay-out .ensures) (c .before .before .before .before .before .before .before .before .before .before .before .before .n .given .1) _ is (c .before .before .before .before .before .before .before .before .if1 .left) in omega (arith, e .few)
+cast-t37 c =
+    let is = room-for-is (c .before .before .before .before .before .before .before .before .before .before .before .before .before .before .before .before .before .before .before .before .before .before .before .before .before .before .before .before .before .before .before .before .args .marks .now) (c .before .before .before .before .before .before .before .before .before .before .before .before .before .before .before .before .before .before .before .before .before .lay-out .ensures) _ _ (c .before .before .before .before .before .before .before .before .before .least-of-four .ensures) (c .before .before .before .before .before .before .before .before .least .ensures) in
+    let e = held (c .before .before .before .before .before .before .before .before .before .before .before .before .before .before .before .before .before .before .before .before .before .before .before .before .before .before .before .before .before .before .before .before .args .marks .now) (c .before .before .before .before .before .before .before .before .before .before .before .before .before .before .before .before .before .before .before .before .before .lay-out .ensures) (c .before .before .before .before .before .before .before .before .before .before .before .n .given .1) _ is (c .before .before .before .before .before .before .before .if1 .left) in omega (arith, e .few)
 
-cast-t40 : tie.Need-cast-t40
+cast-t38 : tie.Need-cast-t38
 unfolding roomIn
-cast-t40 c =
-    let is = room-for-is (c .before .before .before .before .before .before .before .before .before .before .before .before .before .before .before .before .before .before .before .before .before .before .before .before .before .before .before .before .before .before .before .before .before .args .marks .now) (c .before .before .before .before .before .before .before .before .before .before .before .before .before .before .before .before .before .before .before .before .before .before .lay-out .ensures) _ _ (c .before .before .before .before .before .before .before .before .before .before .least-of-four .ensures) (c .before .before .before .before .before .before .before .before .before .least .ensures) in
-    let e = held (c .before .before .before .before .before .before .before .before .before .before .before .before .before .before .before .before .before .before .before .before .before .before .before .before .before .before .before .before .before .before .before .before .before .args .marks .now) (c .before .before .before .before .before .before .before .before .before .before .before .before .before .before .before .before .before .before .before .before .before .before .lay-out .ensures) (c .before .before .before .before .before .before .before .before .before .before .before .before .n .given .1) _ is (c .before .before .before .before .before .before .before .before .if1 .left) in
-    omega (arith, e .few, marked-few _ _ refl (e .levels-room) (c .before .before .mark-elements .ensures))
+cast-t38 c =
+    let is = room-for-is (c .before .before .before .before .before .before .before .before .before .before .before .before .before .before .before .before .before .before .before .before .before .before .before .before .before .before .before .before .before .before .before .before .args .marks .now) (c .before .before .before .before .before .before .before .before .before .before .before .before .before .before .before .before .before .before .before .before .before .lay-out .ensures) _ _ (c .before .before .before .before .before .before .before .before .before .least-of-four .ensures) (c .before .before .before .before .before .before .before .before .least .ensures) in
+    let e = held (c .before .before .before .before .before .before .before .before .before .before .before .before .before .before .before .before .before .before .before .before .before .before .before .before .before .before .before .before .before .before .before .before .args .marks .now) (c .before .before .before .before .before .before .before .before .before .before .before .before .before .before .before .before .before .before .before .before .before .lay-out .ensures) (c .before .before .before .before .before .before .before .before .before .before .before .n .given .1) _ is (c .before .before .before .before .before .before .before .if1 .left) in
+    omega (arith, e .few, marked-few _ _ refl (e .levels-room) (c .before .before .mark-elements .ensures _ (columns-held e)))
 
 enum-known-number : tie.Need-enum-known-number
 enum-known-number c = search needs
@@ -89,8 +93,9 @@ same-length-9 c = search needs
 returns-2 : tie.Need-returns-2
 unfolding roomIn
 returns-2 c =
-    let is = room-for-is (c .before .before .before .before .before .before .before .before .before .before .before .before .before .before .before .before .before .before .before .before .before .before .before .before .before .before .before .before .before .before .before .before .before .args .marks .now) (c .before .before .before .before .before .before .before .before .before .before .before .before .before .before .before .before .before .before .before .before .before .before .lay-out .ensures) _ _ (c .before .before .before .before .before .before .before .before .before .before .least-of-four .ensures) (c .before .before .before .before .before .before .before .before .before .least .ensures) in
-    by-room _ _ (c .before .before .before .before .before .before .before .before .before .before .before .before .before .before .before .before .before .before .before .before .before .before .lay-out .ensures) (c .before .before .before .before .before .before .before .before .before .before .before .before .n .given .1) _ is (c .before .before .before .before .before .before .before .before .if1 .left) (c .before .before .mark-elements .ensures)
+    let is = room-for-is (c .before .before .before .before .before .before .before .before .before .before .before .before .before .before .before .before .before .before .before .before .before .before .before .before .before .before .before .before .before .before .before .before .args .marks .now) (c .before .before .before .before .before .before .before .before .before .before .before .before .before .before .before .before .before .before .before .before .before .lay-out .ensures) _ _ (c .before .before .before .before .before .before .before .before .before .least-of-four .ensures) (c .before .before .before .before .before .before .before .before .least .ensures) in
+    let e = held (c .before .before .before .before .before .before .before .before .before .before .before .before .before .before .before .before .before .before .before .before .before .before .before .before .before .before .before .before .before .before .before .before .args .marks .now) (c .before .before .before .before .before .before .before .before .before .before .before .before .before .before .before .before .before .before .before .before .before .lay-out .ensures) (c .before .before .before .before .before .before .before .before .before .before .before .n .given .1) _ is (c .before .before .before .before .before .before .before .if1 .left) in
+    by-room _ _ (c .before .before .before .before .before .before .before .before .before .before .before .before .before .before .before .before .before .before .before .before .before .lay-out .ensures) (c .before .before .before .before .before .before .before .before .before .before .before .n .given .1) _ is (c .before .before .before .before .before .before .before .if1 .left) (c .before .before .mark-elements .ensures _ (columns-held e))
 
 same-length-10 : tie.Need-same-length-10
 same-length-10 c = search needs
@@ -122,8 +127,8 @@ mark-by-entries-spec =
     same-length-4
     returns
     mark-elements-requires
-    cast-t39
-    cast-t40
+    cast-t37
+    cast-t38
     enum-known-number
     refuse-requires-2
     same-length-5

@@ -1,0 +1,37 @@
+-- `back_word`: the mark is put above the bits below i. Assumes nothing.
+use native.Mathlib.Nat.{mod-eq-of-lt}
+use borrow.Author.Needs.{needs}
+use Rattle.steps.proofs.back.back_word.Statement.{statement}
+use Rattle.steps.proofs.back.back_word.Tie as tie
+use Rattle.steps.proofs.back.until_mark.Reads as until-mark-reads
+use Rattle.steps.proofs.word.bit_where.Reads as bit-where-reads
+use Rattle.steps.proofs.word.put_number.Reads as put-number-reads
+
+until-mark-requires : tie.Need-until-mark-requires
+until-mark-requires c κs = search needs
+
+put-number-requires : tie.Need-put-number-requires
+put-number-requires c κs = search needs
+
+bit-where-requires : tie.Need-bit-where-requires
+bit-where-requires c κs = search needs
+
+put-number-requires-2 : tie.Need-put-number-requires-2
+put-number-requires-2 c κs = search needs
+
+returns : tie.Need-returns
+returns c = rw (c .put-number .ensures, mod-eq-of-lt (c .before .until-mark .ensures .1), c .before .until-mark .ensures .0, c .before .before .if1 .taken)
+
+returns-2 : tie.Need-returns-2
+returns-2 c = rw (c .put-number2 .ensures, mod-eq-of-lt (c .before .bit-where .ensures .1), c .before .bit-where .ensures .0, c .before .before .if1 .left)
+
+pub back-word-spec : {M : Type 1} → statement M
+back-word-spec =
+    tie.close
+    (tie.spec
+    until-mark-requires
+    put-number-requires
+    bit-where-requires
+    put-number-requires-2
+    returns
+    returns-2)

@@ -1,0 +1,19 @@
+-- `put_bit`: a test is a number below 2. Assumes nothing.
+use native.Mathlib.Nat.{mod-eq-of-lt}
+use Rattle.numbers.proofs.BitLaws.{bit-small}
+use borrow.Author.Needs.{needs}
+use Rattle.steps.proofs.word.put_bit.Statement.{statement}
+use Rattle.steps.proofs.word.put_bit.Tie as tie
+use Rattle.steps.proofs.word.put_number.Reads as put-number-reads
+
+cast-put-number : tie.Need-cast-put-number
+cast-put-number c = search needs
+
+put-number-requires : tie.Need-put-number-requires
+put-number-requires c κs = search needs
+
+returns : tie.Need-returns
+returns c = rw (c .put-number .ensures, mod-eq-of-lt (bit-small (c .before .args .on)))
+
+pub put-bit-spec : {M : Type 1} → statement M
+put-bit-spec = tie.close (tie.spec cast-put-number put-number-requires returns)

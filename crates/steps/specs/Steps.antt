@@ -1,0 +1,41 @@
+-- What a pass puts at an element, from the element's own bits and what it has read of others.
+-- Shuts out: one child's mark read only; the last element of a way asked a; kind 14 true of no child.
+-- Laws: the crate marking says that the marks of a pass are these steps, and that along the columns they are what a kind means.
+-- Assumes nothing.
+use Prim.Native.Nat.{ℕ}
+use mathlib.Core.Bool.{Bool, cond, not, xor, _&&_, _||_}
+use mathlib.Core.List.{List}
+use Rattle.terms.specs.declared.kind.Axis.{Axis}
+use Rattle.terms.specs.declared.kind.Axis.the-variants.{Child, Parent, Next, Previous}
+use Rattle.numbers.specs.Bits.{bitAt, inWord}
+use Rattle.steps.specs.declared.ahead.AskedAhead.{AskedAhead}
+use Rattle.steps.specs.declared.ahead.AskedAhead.the-variants.{Until, Every}
+use Rattle.steps.specs.declared.gate.Gate.{Gate}
+
+-- What a gate makes of a word: its two bits are joined by and, each of them and the outcome being inverted where it is said so.
+unfoldable pub gateMark : Gate → ℕ → Bool
+gateMark gate w =
+    xor (xor (bitAt w (inWord (gate .a))) (gate .first) && xor (bitAt w (inWord (gate .b))) (gate .second)) (gate .outcome)
+
+-- Kinds 7 and 9, or 11 and 13 (until), at an element: a and b are its bits, `back` and `mark` bit a and the pass's mark where its
+-- column leads.
+abbrev pub backStep : (until a b back mark : Bool) → Bool
+backStep until a b back mark = cond until (b || (a && mark)) back
+
+-- The column that an axis is found by.
+unfoldable pub columnOf : Axis → (ups lefts : List ℕ) → List ℕ
+columnOf Child ups lefts = ups
+columnOf Parent ups lefts = ups
+columnOf Next ups lefts = lefts
+columnOf Previous ups lefts = lefts
+
+-- Kinds 10 and 12 (Until), 14 (Every) at an element: a and b are its bits, `gathered` says that an element that leads
+-- here has given, `child` that one leads here.
+abbrev pub ownStep : AskedAhead → (a b gathered child : Bool) → Bool
+ownStep Until a b gathered child = b || (a && gathered)
+ownStep Every a b gathered child = child && not gathered
+
+-- Whether an element gives, by its bit a and its own mark.
+abbrev pub givenStep : AskedAhead → (a own : Bool) → Bool
+givenStep Until a own = own
+givenStep Every a own = not a
