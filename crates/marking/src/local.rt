@@ -8,13 +8,13 @@ ghost use Rattle.terms.specs.declared.kind.Numbers.the-variants.{Entries};
 ghost use Rattle.meaning.specs.Marks.{meansHere};
 ghost use Rattle.marking.specs.Pass.{Passed, Room, bitsOf};
 ghost use Rattle.steps.specs.Steps.{gateMark};
-use numbers::bytes::wide;
 use steps::gate::Gate;
 use steps::gate::always_gate;
 use steps::gate::and_gate;
 use steps::gate::gate_mark;
 use steps::gate::not_gate;
 use steps::gate::or_gate;
+use steps::label::label_mark;
 use steps::word::put_bit;
 use terms::kind::Local;
 
@@ -38,8 +38,7 @@ fn label_pass(label: usize, i: usize, labels: &[u16], marks: &mut [u64])
 {
     let mut s: usize = 0;
     while s < labels.len() {
-        let own = wide(labels[s]);
-        marks[s] = put_bit(marks[s], i, own == label);
+        marks[s] = put_bit(marks[s], i, label_mark(labels[s], label));
         s += 1;
     }
 }

@@ -5,4 +5,5 @@ pub mod ahead;
 pub mod back;
 pub mod column;
 pub mod gate;
+pub mod label;
 pub mod word;

@@ -20,20 +20,20 @@ abbrev μ-loop : tie.MeasureT-loop
 loop-holds : tie.Need-loop-holds Inv-loop μ-loop
 loop-holds c = (omega arith, ascent-start (c .before .before .pre) _)
 
-mul-wide : tie.Need-mul-wide Inv-loop μ-loop
-mul-wide c = omega arith
-
-shared-slice-read-wide : tie.Need-shared-slice-read-wide Inv-loop μ-loop
-shared-slice-read-wide c = omega arith
-
-wide-requires : tie.Need-wide-requires Inv-loop μ-loop
-wide-requires c κs = search needs
-
 mul-put-bit : tie.Need-mul-put-bit Inv-loop μ-loop
 mul-put-bit c = omega arith
 
 slice-read-put-bit : tie.Need-slice-read-put-bit Inv-loop μ-loop
 slice-read-put-bit c = omega arith
+
+mul-label-mark : tie.Need-mul-label-mark Inv-loop μ-loop
+mul-label-mark c = omega arith
+
+shared-slice-read-label-mark : tie.Need-shared-slice-read-label-mark Inv-loop μ-loop
+shared-slice-read-label-mark c = omega arith
+
+label-mark-requires : tie.Need-label-mark-requires Inv-loop μ-loop
+label-mark-requires c κs = search needs
 
 put-bit-requires : tie.Need-put-bit-requires Inv-loop μ-loop
 put-bit-requires c κs = search needs
@@ -55,7 +55,7 @@ loop-again c =
     let l = c .before .before .before .before .before .loop in
     let room = c .before .before .before .before .before .before .before .before .pre in
     let t = c .before .before .before .before .loop-test .taken in
-    (omega arith, rw (c .put-bit .ensures, c .before .before .wide .ensures .0, own-in room) (ascent-turn room _ (l .s) _ t refl (l .inv .1)))
+    (omega arith, rw (c .put-bit .ensures, c .before .label-mark .ensures, own-in room) (ascent-turn room _ (l .s) _ t refl (l .inv .1)))
 
 same-length : tie.Need-same-length Inv-loop μ-loop
 same-length c = search needs
@@ -70,11 +70,11 @@ label-pass-spec =
     Inv-loop
     μ-loop
     loop-holds
-    mul-wide
-    shared-slice-read-wide
-    wide-requires
     mul-put-bit
     slice-read-put-bit
+    mul-label-mark
+    shared-slice-read-label-mark
+    label-mark-requires
     put-bit-requires
     mul-marks
     slice-write-marks
