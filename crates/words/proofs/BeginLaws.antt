@@ -29,7 +29,7 @@ use Rattle.words.specs.declared.begins.Begin.the-variants as B
 use Rattle.words.specs.declared.begins.Start.{Start}
 use Rattle.words.specs.declared.begins.Start.the-variants as S
 use Rattle.words.specs.Words.{headOf, wordAt, digitsOf, numberOf}
-use Rattle.words.specs.Begins.{leafTree, trueOf, trueAt, labelOf, labelAt, notOf, notAt, lettersAt, beginAt, namedOf, namedAt, axisAt, stepOf, stepAt, startAt}
+use Rattle.words.specs.Begins.{leafTree, trueOf, labelOf, notOf, lettersAt, beginAt, namedOf, namedAt, axisAt, stepOf, stepAt, startAt}
 use Rattle.words.proofs.Reading.{WordAt, OrAt, NumberAt, Lettered, LettersAt, BeginsAt, AxisAt, While, StartAt}
 use Rattle.words.proofs.WordLaws.{by-test, front, word-says, number-law}
 use Rattle.terms.specs.Limits.{labelMost}
@@ -46,41 +46,28 @@ module _ (w : Bool) (s : List ℕ) (at : ℕ) where
   unfolding ascii
   or-close e = rw e
 
-module _ (s : List ℕ) (at : ℕ) (r : Word) where
-  pub true-is : r ≡ wordAt trueWord s at → trueOf r ≡ trueAt s at
-  unfolding trueAt
-  true-is x = rw x
+-- `label N`, where its word stands.
+module _ (s : List ℕ) (r : Word) (e n : ℕ) (q : r ≡ At e) (i : n ≡ digitsOf (drop e s)) where
+  pub label-bare : n ≡ 0 → B.Nothing e ≡ labelOf s r
+  label-bare h = rw (q, ← i, h)
 
-  pub not-is : r ≡ wordAt notWord s at → notOf r ≡ notAt s at
-  unfolding notAt
-  not-is x = rw x
-
-  pub label-is : r ≡ wordAt (ascii "label ") s at → labelOf s r ≡ labelAt s at
-  unfolding labelAt
-  label-is x = rw x
-
-  module _ (x : r ≡ wordAt (ascii "label ") s at) (e n v : ℕ) (q : r ≡ At e) (i : n ≡ digitsOf (drop e s)) where
-    pub label-bare : n ≡ 0 → B.Nothing e ≡ labelAt s at
-    unfolding labelAt
-    label-bare h = rw (← x, q, ← i, h)
-
-    pub label-whole : (n ≡ 0 → ⊥) → v ≡ numberOf (drop e s) → B.Leaf (e + n) v ≡ labelAt s at
-    unfolding labelAt
-    label-whole h j = rw (← x, q, ← i, ← j, ne-eqb n 0 h)
+  pub label-whole : (v : ℕ) → (n ≡ 0 → ⊥) → v ≡ numberOf (drop e s) → B.Leaf (e + n) v ≡ labelOf s r
+  label-whole v h j = rw (q, ← i, ← j, ne-eqb n 0 h)
 
 -- The byte at the cursor decides.
 module _ (s : List ℕ) (at b : ℕ) (e : b ≡ headOf (drop at s)) where
-  pub letters-true : b ≡ 116 → trueAt s at ≡ lettersAt s at
-  unfolding lettersAt
-  letters-true h = rw (← e, h)
+  module _ (r : Word) where
+    pub letters-true : b ≡ 116 → r ≡ wordAt trueWord s at → trueOf r ≡ lettersAt s at
+    unfolding lettersAt
+    letters-true h x = rw (← e, h, x)
 
-  pub letters-label : b ≡ 108 → labelAt s at ≡ lettersAt s at
-  unfolding lettersAt
-  letters-label h = rw (← e, h)
+    pub letters-label : b ≡ 108 → r ≡ wordAt (ascii "label ") s at → labelOf s r ≡ lettersAt s at
+    unfolding lettersAt
+    letters-label h x = rw (← e, h, x)
 
-  pub letters-not : b ≡ 110 → notAt s at ≡ lettersAt s at
-  unfolding lettersAt
-  letters-not h = rw (← e, h)
+    pub letters-not : b ≡ 110 → r ≡ wordAt notWord s at → notOf r ≡ lettersAt s at
+    unfolding lettersAt
+    letters-not h x = rw (← e, h, x)
 
   pub letters-other : (b ≡ 116 → ⊥) → (b ≡ 108 → ⊥) → (b ≡ 110 → ⊥) → B.Nothing at ≡ lettersAt s at
   unfolding lettersAt
@@ -260,22 +247,19 @@ module _ (s : List ℕ) (at : ℕ) where
     go (b ∷ l) h1 h2 h3 K = rw (ne-eqb b 116 h1, ne-eqb b 108 h2, ne-eqb b 110 h3)
 
   module _ (m : at ≤ length s) where
-    true-law : headOf (drop at s) ≡ 116 → LettersAt s at (trueAt s at)
-    unfolding trueAt
+    true-law : headOf (drop at s) ≡ 116 → LettersAt s at (trueOf (wordAt trueWord s at))
     true-law h = go (wordAt trueWord s at) (word-says trueWord s at m _ refl) where
       go : (r : Word) → WordAt trueWord s at r → LettersAt s at (trueOf r)
       go (At e) x = true-there e x
       go (Missing p) x = true-missing p h x
 
-    not-law : headOf (drop at s) ≡ 110 → LettersAt s at (notAt s at)
-    unfolding notAt
+    not-law : headOf (drop at s) ≡ 110 → LettersAt s at (notOf (wordAt notWord s at))
     not-law h = go (wordAt notWord s at) (word-says notWord s at m _ refl) where
       go : (r : Word) → WordAt notWord s at r → LettersAt s at (notOf r)
       go (At e) x = not-there e x
       go (Missing p) x = not-missing p h x
 
-    label-law : headOf (drop at s) ≡ 108 → LettersAt s at (labelAt s at)
-    unfolding labelAt
+    label-law : headOf (drop at s) ≡ 108 → LettersAt s at (labelOf s (wordAt (ascii "label ") s at))
     label-law h = go (wordAt (ascii "label ") s at) (word-says (ascii "label ") s at m _ refl) where
       go : (r : Word) → WordAt (ascii "label ") s at r → LettersAt s at (labelOf s r)
       go (At e) x =

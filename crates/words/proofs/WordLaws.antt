@@ -20,7 +20,7 @@ use Rattle.paths.proofs.Sound.{decimal-behind}
 use Rattle.paths.proofs.Descent.{Stops, agree, word-stops}
 use Rattle.words.specs.declared.words.Word.{Word}
 use Rattle.words.specs.declared.words.Word.the-variants.{At, Missing}
-use Rattle.words.specs.Words.{headOf, digitFrom, wordAt, digitsOf, numberOf}
+use Rattle.words.specs.Words.{headOf, digitFrom, wordAt, noDigit, digitOf, digitsOf, numberOf}
 use Rattle.words.proofs.Reading.{WordAt, NumberAt}
 
 -- ---- tests
@@ -149,25 +149,38 @@ module _ (x s : List ℕ) (at : ℕ) where
 
 -- ---- numbers
 
-pub digit-law : (low b : ℕ) (l : List ℕ) → b ≡ headOf l → (leb low b && leb b 57) ≡ digitFrom low l
-unfolding digitFrom
-digit-law low b l e = rw e
-
 no-digit : (l : List ℕ) → digitFrom 48 l ≡ false → NoDigit l
 unfolding digitFrom headOf NoDigit isDigit
 no-digit [] e = tt
 no-digit (b ∷ l) e = e
 
--- A digit from `low` is one from 0, and the byte of a digit is at least that of 0.
-pub digit-any : (low : ℕ) (l : List ℕ) → 48 ≤ low → digitFrom low l ≡ true → digitFrom 48 l ≡ true
-unfolding digitFrom
-digit-any low l m e =
-    let h = and-true _ _ e in
-    let i = leb-true low (headOf l) (h .0) in rw (le-leb 48 (headOf l) (omega arith), h .1)
+-- The byte of a digit.
+pub digit-byte : (low b : ℕ) → (leb low b && leb b 57) ≡ true → (low ≤ b) × (b ≤ 57)
+digit-byte low b e = let h = and-true _ _ e in (leb-true low b (h .0), leb-true b 57 (h .1))
 
-pub digit-least : (l : List ℕ) → digitFrom 48 l ≡ true → (48 ≤ headOf l) × (headOf l ≤ 57)
-unfolding digitFrom
-digit-least l e = let h = and-true _ _ e in (leb-true 48 (headOf l) (h .0), leb-true (headOf l) 57 (h .1))
+module _ (low : ℕ) (l : List ℕ) where
+  pub digit-is : (b : ℕ) → b ≡ headOf l → (leb low b && leb b 57) ≡ true → (b - 48 ≡ digitOf low l) × (b - 48 ≤ noDigit)
+  unfolding digitFrom digitOf
+  digit-is b e t = (rw (← e, t), omega (arith, digit-byte low b t))
+
+  pub digit-not : (b : ℕ) → b ≡ headOf l → (leb low b && leb b 57) ≡ false → noDigit ≡ digitOf low l
+  unfolding digitFrom digitOf
+  digit-not b e t = rw (← e, t)
+
+  module _ (d : ℕ) (e : d ≡ digitOf low l) where
+    pub digit-none : d ≡ noDigit → digitFrom low l ≡ false
+    unfolding digitFrom digitOf
+    digit-none h = go (leb low (headOf l) && leb (headOf l) 57) refl e where
+      go : (t : Bool) → (leb low (headOf l) && leb (headOf l) 57) ≡ t → d ≡ cond t (headOf l - 48) noDigit → t ≡ false
+      go true t q = absurd (omega (arith, h, q, digit-byte low (headOf l) t))
+      go false t q = refl
+
+    pub digit-some : (d ≡ noDigit → ⊥) → (digitFrom low l ≡ true) × (d ≡ headOf l - 48)
+    unfolding digitOf
+    digit-some h = go (digitFrom low l) e where
+      go : (t : Bool) → d ≡ cond t (headOf l - 48) noDigit → (t ≡ true) × (d ≡ headOf l - 48)
+      go true q = (refl, q)
+      go false q = absurd (h q)
 
 module _ (s : List ℕ) where
   -- A digit at the cursor, by what it counts.
@@ -235,7 +248,7 @@ module _ (s : List ℕ) where
 
 -- The tests of three bytes give the digits of a number, and what the digits count gives its value.
 module _ (s : List ℕ) (at : ℕ) where
-  abbrev Number : ℕ → ℕ → Type 0
+  abbrev pub Number : ℕ → ℕ → Type 0
   Number k v = (k ≡ digitsOf (drop at s)) × (v ≡ numberOf (drop at s))
 
   -- The value of so many digits.
@@ -265,22 +278,22 @@ module _ (s : List ℕ) (at : ℕ) where
     unfolding digitsOf
     count-three f g = rw (e, drop-drop 1 at s, f, drop-drop 2 at s, g)
 
-  pub no-number : digitFrom 49 (drop at s) ≡ false → Number 0 0
+  no-number : digitFrom 49 (drop at s) ≡ false → Number 0 0
   unfolding digitsOf numberOf valueFrom
   no-number e = (rw e, rw e)
 
-  pub one-digit : (v : ℕ) → digitFrom 49 (drop at s) ≡ true → digitFrom 48 (drop (at + 1) s) ≡ false → v ≡ headOf (drop at s) - 48 → Number 1 v
+  one-digit : (v : ℕ) → digitFrom 49 (drop at s) ≡ true → digitFrom 48 (drop (at + 1) s) ≡ false → v ≡ headOf (drop at s) - 48 → Number 1 v
   one-digit v e f x =
       let n = count-one e f in (n, value-one v _ n (digit-front s 49 at v (omega arith) e x .3))
 
-  pub two-digits : (v w : ℕ) → digitFrom 49 (drop at s) ≡ true → digitFrom 48 (drop (at + 1) s) ≡ true → digitFrom 48 (drop (at + 2) s) ≡ false
+  two-digits : (v w : ℕ) → digitFrom 49 (drop at s) ≡ true → digitFrom 48 (drop (at + 1) s) ≡ true → digitFrom 48 (drop (at + 2) s) ≡ false
       → v ≡ headOf (drop at s) - 48 → w ≡ headOf (drop (at + 1) s) - 48 → Number 2 (10 * v + w)
   two-digits v w e f g x y =
       let n = count-two e f g in
       let q = digit-front s 49 at v (omega arith) e x .3 in
       let r = digit-front s 48 (at + 1) w (omega arith) f y .3 in (n, value-two v w _ n (q ∙ ap (_∷_ (digit v)) r))
 
-  pub three-digits : (v w u : ℕ) → digitFrom 49 (drop at s) ≡ true → digitFrom 48 (drop (at + 1) s) ≡ true → digitFrom 48 (drop (at + 2) s) ≡ true
+  three-digits : (v w u : ℕ) → digitFrom 49 (drop at s) ≡ true → digitFrom 48 (drop (at + 1) s) ≡ true → digitFrom 48 (drop (at + 2) s) ≡ true
       → v ≡ headOf (drop at s) - 48 → w ≡ headOf (drop (at + 1) s) - 48 → u ≡ headOf (drop (at + 2) s) - 48 → Number 3 (10 * (10 * v + w) + u)
   three-digits v w u e f g x y z =
       let n = count-three e f g in
@@ -311,6 +324,28 @@ module _ (s : List ℕ) (at : ℕ) where
     go zero h = omega arith
     go (suc k) h = omega (arith, h .0)
 
+-- From what the code has of three digits.
+module _ (s : List ℕ) (at v : ℕ) (x : v ≡ digitOf 49 (drop at s)) where
+  pub none-found : v ≡ noDigit → Number s at 0 0
+  none-found h = no-number s at (digit-none 49 (drop at s) v x h)
+
+  module _ (h : v ≡ noDigit → ⊥) (w : ℕ) (y : w ≡ digitOf 48 (drop (at + 1) s)) where
+    pub one-found : w ≡ noDigit → Number s at 1 v
+    one-found i =
+        let (e, a) = digit-some 49 (drop at s) v x h in one-digit s at v e (digit-none 48 (drop (at + 1) s) w y i) a
+
+    module _ (i : w ≡ noDigit → ⊥) (u : ℕ) (z : u ≡ digitOf 48 (drop (at + 2) s)) where
+      pub two-found : u ≡ noDigit → Number s at 2 (10 * v + w)
+      two-found j =
+          let (e, a) = digit-some 49 (drop at s) v x h in
+          let (f, b) = digit-some 48 (drop (at + 1) s) w y i in two-digits s at v w e f (digit-none 48 (drop (at + 2) s) u z j) a b
+
+      pub three-found : (u ≡ noDigit → ⊥) → Number s at 3 (10 * (10 * v + w) + u)
+      three-found j =
+          let (e, a) = digit-some 49 (drop at s) v x h in
+          let (f, b) = digit-some 48 (drop (at + 1) s) w y i in
+          let (g, c) = digit-some 48 (drop (at + 2) s) u z j in three-digits s at v w u e f g a b c
+
 -- There is a byte where there is a digit.
-pub digit-there : (s : List ℕ) (at low : ℕ) → 48 ≤ low → digitFrom low (drop at s) ≡ true → at < length s
-digit-there s at low l e = digit-front s low at _ l e refl .2
+pub digit-there : (s : List ℕ) (at low d : ℕ) → 48 ≤ low → d ≡ digitOf low (drop at s) → (d ≡ noDigit → ⊥) → at < length s
+digit-there s at low d l e h = let (f, x) = digit-some low (drop at s) d e h in digit-front s low at d l f x .2

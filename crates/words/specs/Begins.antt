@@ -35,31 +35,23 @@ abbrev pub trueOf : Word → Begin
 trueOf (At e) = B.Leaf e 0
 trueOf (Missing p) = B.Nothing p
 
-unfoldable pub trueAt : (s : List ℕ) (at : ℕ) → Begin
-trueAt s at = trueOf (wordAt trueWord s at)
-
 -- `label N`: the number stands behind the word and its space.
 abbrev pub labelOf : List ℕ → Word → Begin
 labelOf s (At e) =
     let n = digitsOf (drop e s) in cond (eqb n 0) (B.Nothing e) (B.Leaf (e + n) (numberOf (drop e s)))
 labelOf s (Missing p) = B.Nothing p
 
-unfoldable pub labelAt : (s : List ℕ) (at : ℕ) → Begin
-labelAt s at = labelOf s (wordAt (ascii "label ") s at)
-
 -- `not`.
 abbrev pub notOf : Word → Begin
 notOf (At e) = B.Not e
 notOf (Missing p) = B.Nothing p
 
-unfoldable pub notAt : (s : List ℕ) (at : ℕ) → Begin
-notAt s at = notOf (wordAt notWord s at)
-
 -- A test that begins with a letter.
 unfoldable pub lettersAt : (s : List ℕ) (at : ℕ) → Begin
 lettersAt s at =
     let b = headOf (drop at s) in
-    cond (eqb b 116) (trueAt s at) (cond (eqb b 108) (labelAt s at) (cond (eqb b 110) (notAt s at) (B.Nothing at)))
+    cond (eqb b 116) (trueOf (wordAt trueWord s at))
+    (cond (eqb b 108) (labelOf s (wordAt (ascii "label ") s at)) (cond (eqb b 110) (notOf (wordAt notWord s at)) (B.Nothing at)))
 
 -- A test: `(`, `<`, or a letter, which stands behind a space where a word stands before.
 unfoldable pub beginAt : (after : Bool) (s : List ℕ) (at : ℕ) → Begin

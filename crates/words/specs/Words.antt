@@ -1,7 +1,7 @@
 -- Bytes, fixed words and numbers at a cursor, told by the bytes from there. Past the end there is none.
 -- Shuts out: a place one byte late; a number that begins with 0.
 -- Laws: proofs/WordLaws.antt (what the answers say of reading), proofs/Only.antt. Assumes nothing.
-use Prim.Native.Nat.{ℕ, _+_}
+use Prim.Native.Nat.{ℕ, _+_, _-_}
 use mathlib.Core.Bool.{Bool, cond, _&&_}
 use mathlib.Core.List.{List, [], _∷_}
 use lib.Dec.{leb, eqb}
@@ -19,6 +19,13 @@ headOf (b ∷ s) = b
 -- It is a digit from `low` to 9.
 unfoldable pub digitFrom : (low : ℕ) → List ℕ → Bool
 digitFrom low s = leb low (headOf s) && leb (headOf s) 57
+
+-- What it counts; a number that no digit counts where it is none.
+abbrev pub noDigit : ℕ
+noDigit = 10
+
+unfoldable pub digitOf : (low : ℕ) → List ℕ → ℕ
+digitOf low s = cond (digitFrom low s) (headOf s - 48) noDigit
 
 -- The word x at the cursor: it stands there whole and ends so; or it is missing where its bytes no longer agree.
 unfoldable pub wordAt : (x s : List ℕ) (at : ℕ) → Word

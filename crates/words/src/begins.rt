@@ -3,7 +3,7 @@ ghost use mathlib.Core.Path.{_≡_};
 ghost use mathlib.Core.List.{_++_};
 ghost use Rattle.paths.specs.Spelling.{gap, orWord};
 ghost use Rattle.words.specs.Words.{wordAt};
-ghost use Rattle.words.specs.Begins.{trueAt, labelAt, notAt, lettersAt, beginAt, namedOf, axisAt, stepAt, startAt};
+ghost use Rattle.words.specs.Begins.{trueOf, labelOf, notOf, lettersAt, beginAt, namedOf, axisAt, stepAt, startAt};
 use crate::words::Word;
 use crate::words::byte_at;
 use crate::words::number_at;
@@ -45,21 +45,21 @@ pub fn or_at(s: &[u8], at: usize, after: bool) -> Word
     }
 }
 
-// `true`.
-fn true_at(s: &[u8], at: usize) -> Begin
-    ensures { λ r. ⌜ r ≡ trueAt (now (s .entry)) at ⌝ }
+// `true`, of the word that was looked for.
+fn true_of(w: Word) -> Begin
+    ensures { λ r. ⌜ r ≡ trueOf w ⌝ }
 {
-    match word_at(s, at, b"true") {
+    match w {
         Word::Missing(p) => Begin::Nothing(p),
         Word::At(e) => Begin::Leaf(e, 0),
     }
 }
 
-// `label`, a space and a number.
-fn label_at(s: &[u8], at: usize) -> Begin
-    ensures { λ r. ⌜ r ≡ labelAt (now (s .entry)) at ⌝ }
+// `label N`: the number stands behind the word and its space.
+fn label_of(s: &[u8], w: Word) -> Begin
+    ensures { λ r. ⌜ r ≡ labelOf (now (s .entry)) w ⌝ }
 {
-    match word_at(s, at, b"label ") {
+    match w {
         Word::Missing(p) => Begin::Nothing(p),
         Word::At(e) => {
             let n = number_at(s, e);
@@ -73,10 +73,10 @@ fn label_at(s: &[u8], at: usize) -> Begin
 }
 
 // `not`.
-fn not_at(s: &[u8], at: usize) -> Begin
-    ensures { λ r. ⌜ r ≡ notAt (now (s .entry)) at ⌝ }
+fn not_of(w: Word) -> Begin
+    ensures { λ r. ⌜ r ≡ notOf w ⌝ }
 {
-    match word_at(s, at, b"not") {
+    match w {
         Word::Missing(p) => Begin::Nothing(p),
         Word::At(e) => Begin::Not(e),
     }
@@ -88,13 +88,13 @@ fn letters_at(s: &[u8], at: usize) -> Begin
 {
     let b = byte_at(s, at);
     if b == 116 {
-        return true_at(s, at);
+        return true_of(word_at(s, at, b"true"));
     }
     if b == 108 {
-        return label_at(s, at);
+        return label_of(s, word_at(s, at, b"label "));
     }
     if b == 110 {
-        return not_at(s, at);
+        return not_of(word_at(s, at, b"not"));
     }
     Begin::Nothing(at)
 }

@@ -1,10 +1,12 @@
 // Bytes, fixed words and numbers at a cursor. It may stand past the end, where there is no byte.
 ghost use mathlib.Core.Path.{_≡_};
-ghost use mathlib.Core.Bool.{true};
-ghost use Prim.Native.Nat.{_-_, _≤_, _<_};
+ghost use Prim.Native.Nat.{_≤_, _<_};
 ghost use lib.ListN.{drop};
 ghost use Rattle.paths.proofs.Descent.{agree};
-ghost use Rattle.words.specs.Words.{headOf, digitFrom, wordAt, digitsOf, numberOf};
+ghost use Rattle.words.specs.Words.{headOf, wordAt, noDigit, digitOf, digitsOf, numberOf};
+
+// What is said of a digit where there is none.
+const NO_DIGIT: u16 = 10;
 
 // A word at a cursor: it stands there and ends so; or no byte can stand there at this place.
 pub enum Word {
@@ -62,48 +64,46 @@ pub fn word_at(s: &[u8], at: usize, word: &[u8]) -> Word
     }
 }
 
-// A digit from `low` to 9.
-fn digit_at(s: &[u8], at: usize, low: u8) -> bool
-    ensures { λ r. ⌜ r ≡ digitFrom low (drop at (now (s .entry))) ⌝ }
+// What the digit at the cursor counts, from that of `low` to 9; 10 where there is no such digit.
+fn digit_at(s: &[u8], at: usize, low: u8) -> u16
+    requires { ⌜ 48 ≤ low ⌝ }
+    ensures { λ r. ⌜ (r ≡ digitOf low (drop at (now (s .entry)))) × (r ≤ noDigit) ⌝ }
 {
     let b = byte_at(s, at);
-    (low <= b) & (b <= 57)
-}
-
-// What the digit at the cursor counts.
-fn digit_value(s: &[u8], at: usize) -> u16
-    requires { ⌜ digitFrom 48 (drop at (now s)) ≡ true ⌝ }
-    ensures { λ r. ⌜ (r ≡ headOf (drop at (now (s .entry))) - 48) × (r < 10) ⌝ }
-{
-    (byte_at(s, at) - 48) as u16
+    if (low <= b) & (b <= 57) {
+        (b - 48) as u16
+    } else {
+        NO_DIGIT
+    }
 }
 
 // A number of 1 to 3 digits, the first not 0.
 pub(crate) fn number_at(s: &[u8], at: usize) -> Number
     ensures { λ r. ⌜ (r .digits ≡ digitsOf (drop at (now (s .entry)))) × (r .value ≡ numberOf (drop at (now (s .entry)))) ⌝ }
 {
-    if !digit_at(s, at, 49) {
+    let one = digit_at(s, at, 49);
+    if one == NO_DIGIT {
         return Number {
             digits: 0,
             value: 0,
         };
     }
-    let one = digit_value(s, at);
-    if !digit_at(s, at + 1, 48) {
+    let two = digit_at(s, at + 1, 48);
+    if two == NO_DIGIT {
         return Number {
             digits: 1,
             value: one,
         };
     }
-    let two = 10 * one + digit_value(s, at + 1);
-    if !digit_at(s, at + 2, 48) {
+    let three = digit_at(s, at + 2, 48);
+    if three == NO_DIGIT {
         return Number {
             digits: 2,
-            value: two,
+            value: 10 * one + two,
         };
     }
     Number {
         digits: 3,
-        value: 10 * two + digit_value(s, at + 2),
+        value: 10 * (10 * one + two) + three,
     }
 }
