@@ -23,7 +23,7 @@ use Rattle.words.specs.declared.begins.Start.the-variants as S
 use Rattle.parse.specs.declared.tree.Parsed.{Parsed}
 use Rattle.parse.specs.declared.tree.Parsed.the-variants.{Done, Bad}
 use Rattle.parse.specs.Rows.{noteRow, formOf, formEntries, formBytes, testEntries, testBytes, stepRow, noteT, noteP, noteS, entriesT, entriesS}
-use Rattle.parse.specs.Promises.{leafBytes, Small, Ends, Shut, Closing, Excepted, EitherOf, StepOf, noteTest, TestParsed, PathParsed, StepParsed, Went}
+use Rattle.parse.specs.Promises.{leafBytes, Small, Ends, Shut, Closing, Excepted, EitherOf, StepOf, TestParsed, PathParsed, StepParsed, Went}
 use Rattle.words.specs.Words.{headOf}
 use Rattle.words.specs.Begins.{leafTree}
 use Rattle.words.proofs.Reading.{OrAt, LeafAt, BeginsAt, StartAt, StepReads, plainStep, plainForm}
@@ -288,6 +288,13 @@ while-text : (a : Axis) (t : Test) {s0 s1 s2 : List ℕ} (r : List ℕ) → s0 �
     → s0 ≡ ahead false (piecesS (while a t) []) r
 unfolding ahead piecesT signByte
 while-text a t r e0 e1 e2 = rw (e0, e1, e2, ahead-test t false (sign closing ∷ sign star ∷ []) r)
+
+-- The table with the test of a step noted, if it has one.
+unfoldable pub noteTest : Step → (k : ℕ) → List ℕ → List ℕ
+noteTest (along x) k rows = rows
+noteTest (along* x) k rows = rows
+noteTest (passing t) k rows = noteT t k rows
+noteTest (while x t) k rows = noteT t k rows
 
 -- What a step counts: what its test does, and its own, which its form tells.
 pub record Own (st : Step) : Type 0 where

@@ -6,7 +6,7 @@ use mathlib.Core.Path.{_≡_}
 use mathlib.Core.Bool.{Bool, true, false}
 use mathlib.Core.List.{List, [], _∷_}
 use lib.ListN.{length, drop}
-use Rattle.paths.specs.Syntax.{Test, Path, Step, along, along*, passing, while, GoodT, GoodP, GoodS}
+use Rattle.paths.specs.Syntax.{Test, Path, Step, GoodT, GoodP, GoodS}
 use Rattle.paths.specs.Spelling.{greater, sign, piecesT, piecesP, piecesS, textOf, Text, StopsAt}
 use Rattle.paths.specs.Translation.{tableOf}
 use Rattle.paths.specs.Answer.{textMost, TextOf, bytesFor, Gets}
@@ -92,13 +92,6 @@ pub record Went (s : List ℕ) (at k : ℕ) (rows : List ℕ) (from entries byte
   pub noted : (p : Path) → noteP (whole p) k 0 rows ≡ noteP p (k + entries) before now
 
 -- ---- what is made of a part
-
--- The table with the test of a step noted, if it has one.
-unfoldable pub noteTest : Step → (k : ℕ) → List ℕ → List ℕ
-noteTest (along x) k rows = rows
-noteTest (along* x) k rows = rows
-noteTest (passing t) k rows = noteT t k rows
-noteTest (while x t) k rows = noteT t k rows
 
 -- The bytes of a record of a test of one word.
 unfoldable pub leafBytes : ℕ → ℕ

@@ -89,11 +89,12 @@ AxisAt s at (N.None p) = (p ≤ length s) × Stops false axis (drop at s) (drop 
 abbrev pub StepReads : (s : List ℕ) (behind : Bool) (r : List ℕ) → Type 0
 StepReads s v r = (K : List Expected) → run false (path ∷ K) s ≡ run v (afterStep ∷ K) r
 
--- A step without a test: AXIS where a word ends there, else AXIS*; and its form, which is the kind of its entry.
+-- A step without a test: AXIS where a word ends there, else AXIS*.
 abbrev pub plainStep : (behind : Bool) → Axis → Step
 plainStep true a = along a
 plainStep false a = along* a
 
+-- .. and its form.
 abbrev pub plainForm : (behind : Bool) → Axis → ℕ
 plainForm true a = neighbourKind a
 plainForm false a = untilKind a

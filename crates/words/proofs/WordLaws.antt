@@ -8,6 +8,7 @@ use mathlib.Core.Path.{_≡_, refl, sym, ap, subst, _∙_}
 use mathlib.Core.Bool.{Bool, true, false, cond, _&&_}
 use mathlib.Core.List.{List, [], _∷_, _++_}
 use borrow.Author.Tests.{ne-eqb, eq-eqb, eqb-true, eqb-false, leb-true, le-leb}
+use lib.Arith.{lt-of-le-ne}
 use lib.Dec.{eqb, leb}
 use lib.ListN.{length, getD, take, drop, drop-of-length-le, length-drop}
 use lib.Seq.{drop-cons, drop-drop}
@@ -29,9 +30,6 @@ use Rattle.words.proofs.Reading.{WordAt, NumberAt}
 pub by-test : {A : Type 0} (P : A → Type 0) (t : Bool) {x y : A} → (t ≡ true → P x) → (t ≡ false → P y) → P (cond t x y)
 by-test P true f g = f refl
 by-test P false f g = g refl
-
-less : (a b : ℕ) → a ≤ b → (a ≡ b → ⊥) → a < b
-less a b m f = elim (decLt a b) [ yes l ↦ l | no l ↦ absurd (f (omega arith)) ]
 
 -- ---- the byte at a cursor
 
@@ -140,7 +138,7 @@ module _ (x s : List ℕ) (at : ℕ) where
       missing t =
           let f = eqb-false (agree x (drop at s)) (length x) t in (
             omega (arith, agree-fits),
-            λ w K. word-stops x (drop at s) w K (less _ _ (agree-most x (drop at s) .0) f) ∙ rw (drop-drop (agree x (drop at s)) at s),
+            λ w K. word-stops x (drop at s) w K (lt-of-le-ne (agree-most x (drop at s) .0) f) ∙ rw (drop-drop (agree x (drop at s)) at s),
           )
 
     -- What a word that was looked for says.

@@ -85,6 +85,7 @@ stepOf s (N.None p) bracket = S.Stray p
 stepOf s (N.Axis e k) true = cond (eqb (headOf (drop e s)) 63) (S.While (e + 1) (k + 8)) (S.Stray e)
 stepOf s (N.Axis e k) false = cond (eqb (headOf (drop e s)) 42) (S.Plain (e + 1) false (k + 4)) (S.Plain e true k)
 
+-- A step from its axis on.
 unfoldable pub stepAt : (bracket : Bool) (s : List ℕ) (at : ℕ) → Start
 stepAt bracket s at = stepOf s (axisAt s at) bracket
 

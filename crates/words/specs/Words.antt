@@ -20,10 +20,11 @@ headOf (b ∷ s) = b
 unfoldable pub digitFrom : (low : ℕ) → List ℕ → Bool
 digitFrom low s = leb low (headOf s) && leb (headOf s) 57
 
--- What it counts; a number that no digit counts where it is none.
+-- What is said of a digit where there is none: no digit counts it.
 abbrev pub noDigit : ℕ
 noDigit = 10
 
+-- What the first byte counts as a digit from `low` to 9.
 unfoldable pub digitOf : (low : ℕ) → List ℕ → ℕ
 digitOf low s = cond (digitFrom low s) (headOf s - 48) noDigit
 
