@@ -3,7 +3,7 @@
 -- Laws: proofs/PartLaws.antt, proofs/TreeLaws.antt, proofs/ReadLaws.antt (one result only). Assumes nothing.
 use Prim.Native.Nat.{ℕ, zero, suc, _+_, _*_, _≤_, _<_}
 use mathlib.Core.Path.{_≡_}
-use mathlib.Core.Bool.{Bool, true, false}
+use mathlib.Core.Bool.{Bool, false}
 use mathlib.Core.List.{List, [], _∷_}
 use lib.ListN.{length, drop}
 use Rattle.paths.specs.Syntax.{Test, Path, Step, GoodT, GoodP, GoodS}

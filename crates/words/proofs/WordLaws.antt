@@ -7,10 +7,10 @@ use native.Mathlib.Omega.{arith}
 use mathlib.Core.Path.{_≡_, refl, sym, ap, subst, _∙_}
 use mathlib.Core.Bool.{Bool, true, false, cond, _&&_}
 use mathlib.Core.List.{List, [], _∷_, _++_}
-use borrow.Author.Tests.{ne-eqb, eq-eqb, eqb-true, eqb-false, leb-true, le-leb}
+use borrow.Author.Tests.{ne-eqb, eq-eqb, eqb-true, eqb-false, leb-true}
 use lib.Arith.{lt-of-le-ne}
 use lib.Dec.{eqb, leb}
-use lib.ListN.{length, getD, take, drop, drop-of-length-le, length-drop}
+use lib.ListN.{length, getD, drop, drop-of-length-le, length-drop}
 use lib.Seq.{drop-cons, drop-drop}
 use Rattle.numbers.proofs.Tells.{and-true}
 use Rattle.text.specs.Decimal.{digit, valueFrom}

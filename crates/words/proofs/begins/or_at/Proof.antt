@@ -1,4 +1,4 @@
-use mathlib.Core.Path.{sym, _∙_}
+use mathlib.Core.Path.{_∙_}
 use Rattle.words.proofs.BeginLaws.{or-spaced, or-close}
 use borrow.Author.Needs.{needs}
 use Rattle.words.proofs.begins.or_at.Statement.{statement}
