@@ -1,6 +1,4 @@
--- Laws: bytes and words at a cursor; what begins there.
-pub mod WordLaws
-pub mod BeginLaws
+-- Laws: what is made of a part; the parsers that call each other; a whole text; its rows.
 pub mod PartLaws
 pub mod TreeLaws
 pub mod ReadLaws

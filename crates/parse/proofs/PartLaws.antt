@@ -9,12 +9,14 @@ use mathlib.Core.List.{List}
 use borrow.Author.Tests.{le-leb, lt-leb, ne-eqb}
 use lib.Dec.{leb, eqb}
 use lib.ListN.{set}
-use Rattle.parse.specs.declared.words.Word.{Word}
-use Rattle.parse.specs.declared.words.Word.the-variants.{At, Missing}
+use Rattle.words.specs.declared.words.Word.{Word}
+use Rattle.words.specs.declared.words.Word.the-variants.{At, Missing}
 use Rattle.parse.specs.declared.tree.Parsed.{Parsed}
 use Rattle.parse.specs.declared.tree.Parsed.the-variants.{Done, Bad}
-use Rattle.parse.specs.Rows.{noteRow, formEntries, formBytes, leafTree, noteT}
-use Rattle.parse.specs.Promises.{WordAt, leafBytes, Small, Shut, Closing, Excepted, EitherOf, StepOf}
+use Rattle.words.specs.Begins.{leafTree}
+use Rattle.words.proofs.Reading.{WordAt}
+use Rattle.parse.specs.Rows.{noteRow, formEntries, formBytes, noteT}
+use Rattle.parse.specs.Promises.{leafBytes, Small, Shut, Closing, Excepted, EitherOf, StepOf}
 use Rattle.terms.specs.Limits.{entriesMost}
 use Rattle.paths.specs.Answer.{textMost}
 

@@ -1,11 +1,11 @@
 -- A whole text: laws of the returns, and that what is promised has one result only. Assumes nothing.
 use Prim.Native.Nat.{ℕ, zero, suc, _≤_, _<_}
-use native.Mathlib.Decide.{decLt}
 use native.Mathlib.Omega.{arith}
 use mathlib.Core.Path.{_≡_, refl, sym, ap, _∙_}
 use mathlib.Core.Bool.{Bool, true, false, _||_}
 use mathlib.Core.List.{List, [], _∷_, _++_}
 use borrow.Author.Tests.{eqb-true, eqb-false, ltb-true, ltb-false}
+use lib.Arith.{lt-of-le-ne}
 use lib.Dec.{eqb, ltb}
 use lib.ListN.{length, take, drop, drop-of-length-le, length-drop, length-take, length-append}
 use Rattle.terms.specs.Answer.{numberOf, placeOf}
@@ -42,16 +42,13 @@ stops-here s p l e =
       same : (q : ℕ) → q ≤ length s → s ≡ take q s ++ drop p s → q ≡ p
       same q i k = omega (arith, ap length k, length-append (take q s) (drop p s), length-take q s, length-drop p s)
 
-less : (a b : ℕ) → a ≤ b → (a ≡ b → ⊥) → a < b
-less a b m f = elim (decLt a b) [ yes l ↦ l | no l ↦ absurd (f (omega arith)) ]
-
 pub read-bad : (s rows : List ℕ) (p : ℕ) → TestParsed false s 0 0 rows (Bad p) rows → Read s rows (O.Stopped p) rows
 read-bad s rows p (m, g) = stops-here s p m (g [])
 
 module _ (s rows after : List ℕ) where
   pub read-over : (e n b : ℕ) (v : Bool) → TestParsed false s 0 0 rows (Done e v n b) after → (e ≡ length s → ⊥) → Read s rows (O.Stopped e) after
   read-over e n b v (f, g, t) h =
-      stops-here s e (f .within) (g [] ∙ over v (drop e s) (omega (arith, length-drop e s, less e (length s) (f .within) h)))
+      stops-here s e (f .within) (g [] ∙ over v (drop e s) (omega (arith, length-drop e s, lt-of-le-ne (f .within) h)))
 
   pub read-whole : (e n b : ℕ) (v : Bool) → TestParsed false s 0 0 rows (Done e v n b) after → e ≡ length s → Read s rows (O.Text n b) after
   unfolding textOf

@@ -17,14 +17,17 @@ use Rattle.paths.proofs.Ahead.{ahead, wordyT, wordyS, ahead-test, ahead-step}
 use Rattle.paths.proofs.Count.{weightT, weightS, whileWeight, recordLength}
 use Rattle.paths.proofs.Complete.{run-or}
 use Rattle.paths.proofs.Descent.{spelt, test-opens, test-path, step-test, path-on, path-ends}
-use Rattle.parse.specs.declared.words.Word.the-variants.{At, Missing}
-use Rattle.parse.specs.declared.begins.Begin.the-variants as B
-use Rattle.parse.specs.declared.begins.Start.the-variants as S
+use Rattle.words.specs.declared.words.Word.the-variants.{At, Missing}
+use Rattle.words.specs.declared.begins.Begin.the-variants as B
+use Rattle.words.specs.declared.begins.Start.the-variants as S
 use Rattle.parse.specs.declared.tree.Parsed.{Parsed}
 use Rattle.parse.specs.declared.tree.Parsed.the-variants.{Done, Bad}
-use Rattle.parse.specs.Rows.{noteRow, formOf, formEntries, formBytes, leafTree, testEntries, testBytes, stepRow, noteT, noteP, noteS, entriesT, entriesS}
-use Rattle.parse.specs.Promises.{headOf, OrAt, LeafAt, BeginsAt, StartAt, leafBytes, Small, Ends, Shut, Closing, Excepted, EitherOf, StepOf, noteTest, StepReads, TestParsed, PathParsed, StepParsed, Went}
-use Rattle.parse.proofs.WordLaws.{front}
+use Rattle.parse.specs.Rows.{noteRow, formOf, formEntries, formBytes, testEntries, testBytes, stepRow, noteT, noteP, noteS, entriesT, entriesS}
+use Rattle.parse.specs.Promises.{leafBytes, Small, Ends, Shut, Closing, Excepted, EitherOf, StepOf, TestParsed, PathParsed, StepParsed, Went}
+use Rattle.words.specs.Words.{headOf}
+use Rattle.words.specs.Begins.{leafTree}
+use Rattle.words.proofs.Reading.{OrAt, LeafAt, BeginsAt, StartAt, StepReads, plainStep, plainForm}
+use Rattle.words.proofs.WordLaws.{front}
 use Rattle.parse.proofs.PartLaws.{entries-few, bytes-few}
 use Rattle.paths.specs.Answer.{textMost}
 
@@ -286,6 +289,13 @@ while-text : (a : Axis) (t : Test) {s0 s1 s2 : List ℕ} (r : List ℕ) → s0 �
 unfolding ahead piecesT signByte
 while-text a t r e0 e1 e2 = rw (e0, e1, e2, ahead-test t false (sign closing ∷ sign star ∷ []) r)
 
+-- The table with the test of a step noted, if it has one.
+unfoldable pub noteTest : Step → (k : ℕ) → List ℕ → List ℕ
+noteTest (along x) k rows = rows
+noteTest (along* x) k rows = rows
+noteTest (passing t) k rows = noteT t k rows
+noteTest (while x t) k rows = noteT t k rows
+
 -- What a step counts: what its test does, and its own, which its form tells.
 pub record Own (st : Step) : Type 0 where
   pub entries : weightS (λ k. 1) st ≡ testEntries st + formEntries (formOf st)
@@ -307,6 +317,20 @@ step-own (while child t) = record { entries = refl; bytes = refl; rows = λ k b 
 step-own (while parent t) = record { entries = refl; bytes = refl; rows = λ k b rows. refl }
 step-own (while right t) = record { entries = refl; bytes = refl; rows = λ k b rows. refl }
 step-own (while left t) = record { entries = refl; bytes = refl; rows = λ k b rows. refl }
+
+-- A step without a test: its form, and that it has nothing of a test.
+record PlainOwn (behind : Bool) (a : Axis) : Type 0 where
+  labels : GoodS (plainStep behind a)
+  ends : behind ≡ wordyS (plainStep behind a)
+  is-form : plainForm behind a ≡ formOf (plainStep behind a)
+  no-entries : 0 ≡ testEntries (plainStep behind a)
+  no-bytes : 0 ≡ testBytes (plainStep behind a)
+  no-rows : (k : ℕ) (rows : List ℕ) → rows ≡ noteTest (plainStep behind a) k rows
+
+plain-own : (behind : Bool) (a : Axis) → PlainOwn behind a
+unfolding wordyT GoodT formOf testEntries testBytes noteTest
+plain-own true a = record { labels = tt; ends = refl; is-form = refl; no-entries = refl; no-bytes = refl; no-rows = λ k rows. refl }
+plain-own false a = record { labels = tt; ends = refl; is-form = refl; no-entries = refl; no-bytes = refl; no-rows = λ k rows. refl }
 
 -- A step whose test was read: what is known of the text, of the tree and of its test's counts and rows.
 module _ (s : List ℕ) (at k before e n b form : ℕ) (v : Bool) (rows mid after : List ℕ) (r : Parsed) (st : Step) where
@@ -339,8 +363,9 @@ module _ (s : List ℕ) (at k before : ℕ) (rows : List ℕ) where
   pub plain-law : (e : ℕ) (v : Bool) (form : ℕ) (r : Parsed) (after : List ℕ) → StartAt s at (S.Plain e v form) → StepOf (Done e v 0 0) k form before rows r after
       → StepParsed s at k before rows r after
   plain-law e v form r after (l, m, g, p) c =
-      step-law s at k before e 0 0 form v rows rows after r (p .tree) (omega arith) m (omega (arith, entries-few form)) (omega arith) g (p .labels) (p .ends)
-      (p .reads) (p .is-form) (p .no-entries) (p .no-bytes) (p .no-rows k rows) c
+      let o = plain-own v (p .named) in
+      step-law s at k before e 0 0 form v rows rows after r (plainStep v (p .named)) (omega arith) m (omega (arith, entries-few form)) (omega arith) g
+      (o .labels) (o .ends) (p .reads) (p .is-form ∙ o .is-form) (o .no-entries) (o .no-bytes) (o .no-rows k rows) c
 
   asked : headOf (drop at s) ≡ 63 → (K : List Expected) → run false (path ∷ K) (drop at s) ≡ run false (test ∷ afterStep ∷ K) (drop (at + 1) s)
   asked h K = let q = front s at 63 h (omega arith) .1 in rw q (step-test false K (drop (at + 1) s))

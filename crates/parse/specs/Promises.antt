@@ -1,65 +1,28 @@
 -- What each function promises at a cursor, over every stack below it, and of the tree that it read. Callers of the crate use `TreeRead`
 -- alone; the rest need not be believed.
--- Laws: proofs/WordLaws.antt, proofs/TreeLaws.antt, proofs/ReadLaws.antt (one result only). Assumes nothing.
+-- Laws: proofs/PartLaws.antt, proofs/TreeLaws.antt, proofs/ReadLaws.antt (one result only). Assumes nothing.
 use Prim.Native.Nat.{ℕ, zero, suc, _+_, _*_, _≤_, _<_}
 use mathlib.Core.Path.{_≡_}
-use mathlib.Core.Bool.{Bool, true, false, _&&_}
-use mathlib.Core.List.{List, [], _∷_, _++_}
+use mathlib.Core.Bool.{Bool, false}
+use mathlib.Core.List.{List, [], _∷_}
 use lib.ListN.{length, drop}
-use lib.Dec.{leb}
-use Rattle.text.specs.Decimal.{decimal}
-use Rattle.terms.specs.declared.kind.Axis.{Axis}
-use Rattle.paths.specs.Syntax.{Test, Path, Step, along, along*, passing, while, GoodT, GoodP, GoodS}
-use Rattle.paths.specs.Spelling.{greater, sign, axisWord, notWord, orWord, gap, piecesT, piecesP, piecesS, textOf, Text, StopsAt}
-use Rattle.paths.specs.Translation.{neighbourKind, tableOf}
+use Rattle.paths.specs.Syntax.{Test, Path, Step, GoodT, GoodP, GoodS}
+use Rattle.paths.specs.Spelling.{greater, sign, piecesT, piecesP, piecesS, textOf, Text, StopsAt}
+use Rattle.paths.specs.Translation.{tableOf}
 use Rattle.terms.specs.declared.answer.Answer.the-variants.{Refused}
 use Rattle.paths.specs.Answer.{textMost, TextOf, bytesFor, TextGets}
-use Rattle.paths.proofs.Machine.{Expected, test, lettered, alternative, number, path, axis, afterStep, byte, stopped, run}
+use Rattle.paths.proofs.Machine.{Expected, test, path, run}
 use Rattle.paths.proofs.Ahead.{wordyT, wordyS, ahead}
 use Rattle.paths.proofs.Count.{weightT, weightP, weightS, recordLength}
-use Rattle.paths.proofs.Descent.{Reads, Stops, spelt}
-use Rattle.parse.specs.declared.words.Word.{Word}
-use Rattle.parse.specs.declared.words.Word.the-variants.{At, Missing}
-use Rattle.parse.specs.declared.begins.Named.{Named}
-use Rattle.parse.specs.declared.begins.Named.the-variants as N
-use Rattle.parse.specs.declared.begins.Begin.{Begin}
-use Rattle.parse.specs.declared.begins.Begin.the-variants as B
-use Rattle.parse.specs.declared.begins.Start.{Start}
-use Rattle.parse.specs.declared.begins.Start.the-variants as S
+use Rattle.paths.proofs.Descent.{Reads, Stops}
+use Rattle.words.specs.declared.words.Word.{Word}
+use Rattle.words.specs.declared.words.Word.the-variants.{At, Missing}
+use Rattle.words.proofs.Reading.{WordAt, StepReads}
 use Rattle.parse.specs.declared.tree.Parsed.{Parsed}
 use Rattle.parse.specs.declared.tree.Parsed.the-variants.{Done, Bad}
 use Rattle.parse.specs.declared.tree.Outcome.{Outcome}
 use Rattle.parse.specs.declared.tree.Outcome.the-variants as O
-use Rattle.parse.specs.Rows.{noRows, noteRow, formOf, formEntries, formBytes, leafTree, testEntries, testBytes, noteT, noteP, noteS}
-use Rattle.terms.specs.Limits.{labelMost}
-
--- ---- bytes, words and numbers
-
--- The first byte, 0 where there is none.
-unfoldable pub headOf : List ℕ → ℕ
-headOf [] = 0
-headOf (b ∷ s) = b
-
--- It is a digit from `low` to 9.
-unfoldable pub digitFrom : (low : ℕ) → List ℕ → Bool
-digitFrom low s = leb low (headOf s) && leb (headOf s) 57
-
--- The word stands at the cursor and ends there; or reading it stops at a place.
-abbrev pub WordAt : (x s : List ℕ) (at : ℕ) → Word → Type 0
-WordAt x s at (At e) = (e ≡ at + length x) × (e ≤ length s) × (drop at s ≡ x ++ drop e s)
-WordAt x s at (Missing p) = (p ≤ length s) × ((w : Bool) (K : List Expected) → run w (spelt x K) (drop at s) ≡ stopped (drop p s))
-
--- .. `or`, behind its space if a word stands before.
-abbrev pub OrAt : (after : Bool) (s : List ℕ) (at : ℕ) → Word → Type 0
-OrAt w s at (At e) = (at + 2 ≤ e) × (e ≤ length s) × (drop at s ≡ gap w ++ (orWord ++ drop e s))
-OrAt w s at (Missing p) = (p ≤ length s) × Stops w alternative (drop at s) (drop p s)
-
--- A number of so many digits and this value; or no number can stand there.
-abbrev pub NumberAt : (s : List ℕ) (at digits value : ℕ) → Type 0
-NumberAt s at zero n = Stops false number (drop at s) (drop at s)
-NumberAt s at (suc k) n =
-    (at + suc k ≤ length s) × Reads false number (drop at s) true (drop (at + suc k) s)
-    × (1 ≤ n) × (n ≤ labelMost) × (drop at s ≡ decimal n ++ drop (at + suc k) s)
+use Rattle.parse.specs.Rows.{noRows, noteRow, formEntries, formBytes, noteT, noteP, noteS}
 
 -- ---- trees
 
@@ -109,9 +72,6 @@ PathParsed s at k rows (Done e v n b) rows' =
     Fits s at e n b × (v ≡ false) × Reads false path (drop at s) false (drop e s) × PathIs (drop at s) (drop e s) n b k rows rows'
 PathParsed s at k rows (Bad p) rows' = (p ≤ length s) × Stops false path (drop at s) (drop p s)
 
-abbrev pub StepReads : (s : List ℕ) (behind : Bool) (r : List ℕ) → Type 0
-StepReads s v r = (K : List Expected) → run false (path ∷ K) s ≡ run v (afterStep ∷ K) r
-
 abbrev pub StepParsed : (s : List ℕ) (at k before : ℕ) (rows : List ℕ) → Parsed → List ℕ → Type 0
 StepParsed s at k before rows (Done e v n b) rows' =
     Fits s at e n b × StepReads (drop at s) v (drop e s) × StepIs (drop at s) (drop e s) v n b k before rows rows'
@@ -131,82 +91,6 @@ pub record Went (s : List ℕ) (at k : ℕ) (rows : List ℕ) (from entries byte
   pub counts : (p : Path) → weightP (λ k. 1) (whole p) ≡ entries + weightP (λ k. 1) p
   pub weighs : (p : Path) → weightP recordLength (whole p) ≡ bytes + weightP recordLength p
   pub noted : (p : Path) → noteP (whole p) k 0 rows ≡ noteP p (k + entries) before now
-
--- ---- what begins at a cursor
-
--- A test of one word, where a word stands before it and a space, or not.
-pub record Lettered (s r : List ℕ) (label : ℕ) : Type 0 where
-  pub goes : Reads false lettered s true r
-  pub good : GoodT (leafTree label)
-  pub is : (w : Bool) → gap w ++ s ≡ ahead w (piecesT (leafTree label) []) r
-
-abbrev pub LettersAt : (s : List ℕ) (at : ℕ) → Begin → Type 0
-LettersAt s at (B.Leaf e l) = (at < e) × (e ≤ length s) × Lettered (drop at s) (drop e s) l
-LettersAt s at (B.Not e) =
-    (at < e) × (e ≤ length s) × (drop at s ≡ notWord ++ drop e s) × ((K : List Expected) → run false (lettered ∷ K) (drop at s) ≡ run true (test ∷ K) (drop e s))
-LettersAt s at B.Either = ⊥
-LettersAt s at B.Path = ⊥
-LettersAt s at (B.Nothing p) = (p ≤ length s) × Stops false lettered (drop at s) (drop p s)
-
--- A test of one word at a cursor.
-pub record LeafAt (w : Bool) (s : List ℕ) (at e label : ℕ) : Type 0 where
-  pub on : at < e
-  pub within : e ≤ length s
-  pub goes : Reads w test (drop at s) true (drop e s)
-  pub good : GoodT (leafTree label)
-  pub reads : drop at s ≡ ahead w (piecesT (leafTree label) []) (drop e s)
-
-abbrev pub BeginsAt : (after : Bool) (s : List ℕ) (at : ℕ) → Begin → Type 0
-BeginsAt w s at (B.Leaf e l) = LeafAt w s at e l
-BeginsAt w s at (B.Not e) =
-    (at < e) × (e ≤ length s) × (drop at s ≡ gap w ++ (notWord ++ drop e s)) × ((K : List Expected) → run w (test ∷ K) (drop at s) ≡ run true (test ∷ K) (drop e s))
-BeginsAt w s at B.Either = headOf (drop at s) ≡ 40
-BeginsAt w s at B.Path = headOf (drop at s) ≡ 60
-BeginsAt w s at (B.Nothing p) = (p ≤ length s) × Stops w test (drop at s) (drop p s)
-
-abbrev pub NamedAt : (x : List ℕ) (kind : ℕ) (s : List ℕ) (at : ℕ) → Named → Type 0
-NamedAt x kind s at (N.Axis e k) = (k ≡ kind) × WordAt x s at (At e)
-NamedAt x kind s at (N.None p) = WordAt x s at (Missing p)
-
-abbrev pub AxisAt : (s : List ℕ) (at : ℕ) → Named → Type 0
-AxisAt s at (N.Axis e k) = (at + 4 ≤ e) × (e ≤ length s) × ((a : Axis) × (k ≡ neighbourKind a) × (drop at s ≡ axisWord a ++ drop e s))
-AxisAt s at (N.None p) = (p ≤ length s) × Stops false axis (drop at s) (drop p s)
-
--- `(AXIS?`, and then r.
-pub record While (s r : List ℕ) (form : ℕ) : Type 0 where
-  pub along : Axis
-  pub goes : (K : List Expected) → run false (path ∷ K) s ≡ run false (test ∷ byte 41 ∷ byte 42 ∷ afterStep ∷ K) r
-  pub reads : s ≡ 40 ∷ (axisWord along ++ (63 ∷ r))
-  pub is-form : form ≡ 8 + neighbourKind along
-
--- The table with the test of a step noted, if it has one.
-unfoldable pub noteTest : Step → (k : ℕ) → List ℕ → List ℕ
-noteTest (along x) k rows = rows
-noteTest (along* x) k rows = rows
-noteTest (passing t) k rows = noteT t k rows
-noteTest (while x t) k rows = noteT t k rows
-
--- A step of this form without a test, and then r.
-pub record PlainIs (s r : List ℕ) (behind : Bool) (form : ℕ) : Type 0 where
-  pub tree : Step
-  pub labels : GoodS tree
-  pub ends : behind ≡ wordyS tree
-  pub reads : s ≡ ahead false (piecesS tree []) r
-  pub is-form : form ≡ formOf tree
-  pub no-entries : 0 ≡ testEntries tree
-  pub no-bytes : 0 ≡ testBytes tree
-  pub no-rows : (k : ℕ) (rows : List ℕ) → rows ≡ noteTest tree k rows
-
--- What is known before an axis is looked for: a bracket stands at the cursor; or neither a bracket nor `?`.
-abbrev pub Opens : (bracket : Bool) (s : List ℕ) (at : ℕ) → Type 0
-Opens true s at = headOf (drop at s) ≡ 40
-Opens false s at = (headOf (drop at s) ≡ 63 → ⊥) × (headOf (drop at s) ≡ 40 → ⊥)
-
-abbrev pub StartAt : (s : List ℕ) (at : ℕ) → Start → Type 0
-StartAt s at (S.Plain e v form) = (at + 4 ≤ e) × (e ≤ length s) × StepReads (drop at s) v (drop e s) × PlainIs (drop at s) (drop e s) v form
-StartAt s at S.Test = headOf (drop at s) ≡ 63
-StartAt s at (S.While e form) = (at + 6 ≤ e) × (e ≤ length s) × While (drop at s) (drop e s) form
-StartAt s at (S.Stray p) = (p ≤ length s) × Stops false path (drop at s) (drop p s)
 
 -- ---- what is made of a part
 

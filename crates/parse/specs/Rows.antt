@@ -15,7 +15,7 @@
 -- Four forms with an axis are child, parent, right, left. A path stands in the row of its last step, from which its steps are followed
 -- to its first, as its entries go; a test <PATH> is its path.
 -- Laws: proofs/HeldLaws.antt. Assumes nothing.
-use Prim.Native.Nat.{ℕ, zero, suc, _+_, _-_, _*_, _≤_, _<_}
+use Prim.Native.Nat.{ℕ, _+_, _-_, _*_, _≤_, _<_}
 use mathlib.Core.Path.{_≡_}
 use mathlib.Core.Bool.{cond}
 use mathlib.Core.List.{List, [], _∷_}
@@ -48,11 +48,6 @@ formEntries form = cond (leb form 9) 1 (cond (eqb form 14) 4 2)
 
 unfoldable pub formBytes : ℕ → ℕ
 formBytes form = cond (leb form 5) 8 (cond (leb form 9) 6 (cond (leb form 13) 12 (cond (eqb form 14) 30 14)))
-
--- A test of one word: `true` for 0, else `label N`.
-unfoldable pub leafTree : ℕ → Test
-leafTree zero = everywhere
-leafTree (suc n) = labelled (suc n)
 
 -- How many entries a test, a path, a step or the test of a step has.
 abbrev pub entriesT : Test → ℕ

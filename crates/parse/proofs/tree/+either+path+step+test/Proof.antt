@@ -5,7 +5,8 @@ use mathlib.Core.Path.{sym, _∙_}
 use mathlib.Core.Bool.{true, false}
 use lib.ListN.{length}
 use Rattle.parse.specs.Promises.{Went}
-use Rattle.parse.proofs.WordLaws.{front}
+use Rattle.words.proofs.WordLaws.{front}
+use Rattle.words.proofs.BeginLaws.{or-says, begins-says, start-says}
 use Rattle.parse.proofs.TreeLaws.{test-small, path-small, test-ends, either-ends, shut-small, leaf-law, except-law, begins-law, either-left, either-word, either-law, went-none, path-stops, path-bad, path-ended, went-more, plain-law, passing-law, while-law}
 use Prim.Native.Nat.{ℕ, _<_}
 use borrow.Fn.Kinds.{In}
@@ -22,16 +23,16 @@ use Rattle.parse.proofs.tree.+either+path+step+test.Lts-step as step-lt
 use Rattle.parse.proofs.tree.test.Reads as test
 use Rattle.parse.proofs.tree.test.Kinds as test-kinds
 use Rattle.parse.proofs.tree.+either+path+step+test.Lts-test as test-lts
-use Rattle.parse.proofs.begins.begins_at.Reads as begins-at-reads
-use Rattle.parse.proofs.begins.or_at.Reads as or-at-reads
-use Rattle.parse.proofs.begins.start_at.Reads as start-at-reads
+use Rattle.words.proofs.begins.begins_at.Reads as begins-at-reads
+use Rattle.words.proofs.begins.or_at.Reads as or-at-reads
+use Rattle.words.proofs.begins.start_at.Reads as start-at-reads
 use Rattle.parse.proofs.tree.closing.Reads as closing-reads
 use Rattle.parse.proofs.tree.either_of.Reads as either-of-reads
 use Rattle.parse.proofs.tree.except.Reads as except-reads
 use Rattle.parse.proofs.tree.leaf.Reads as leaf-reads
 use Rattle.parse.proofs.tree.shut.Reads as shut-reads
 use Rattle.parse.proofs.tree.step_of.Reads as step-of-reads
-use Rattle.parse.proofs.words.byte_at.Reads as byte-at-reads
+use Rattle.words.proofs.words.byte_at.Reads as byte-at-reads
 use Rattle.parse.proofs.tree.+either+path+step+test.{statement}
 use Rattle.parse.proofs.tree.+either+path+step+test.Tie.{close}
 
@@ -99,13 +100,13 @@ either-cast-or-at : (t : ℕ) → either-lts.Need-cast-or-at (either-calls t) (e
 either-cast-or-at t c = search needs
 
 either-or-at-requires : (t : ℕ) → either-lts.Need-or-at-requires (either-calls t) (either-at t) either.Post
-either-or-at-requires t c κs = let x = (rw (c .before .e .given .1) at (c .before .before .before .test .ensures)) in x .0 .within
+either-or-at-requires t c κs = search needs
 
 either-enum-known-p-2 : (t : ℕ) → either-lts.Need-enum-known-p-2 (either-calls t) (either-at t) either.Post
 either-enum-known-p-2 t c = search needs
 
 either-cast-t21 : (t : ℕ) → either-lts.Need-cast-t21 (either-calls t) (either-at t) either.Post
-either-cast-t21 t c = let y = (rw (c .before .p2 .given .1) at (c .before .before .before .or-at .ensures)) in omega (arith, c .before .before .before .before .before .before .before .before .before .before .pre, y .0)
+either-cast-t21 t c = let y = (rw (c .before .p2 .given .1) at (or-says (c .before .before .before .before .before .e .given .0 .1 .0) (c .before .before .before .before .before .before .before .before .before .before .args .s .now) (c .before .before .before .before .before .e .given .0 .0) (rw (c .before .before .before .before .before .e .given .1) at (test-ends (c .before .before .before .before .before .before .before .before .before .before .args .s .now) (c .before .before .before .before .before .before .before .before .before .before .args .at + 1) _ _ false (c .before .before .before .before .before .before .before .test .result) _ (c .before .before .before .before .before .before .before .test .ensures))) (c .before .before .before .or-at .result) (c .before .before .before .or-at .ensures))) in omega (arith, c .before .before .before .before .before .before .before .before .before .before .pre, y .0)
 
 either-enum-known-f : (t : ℕ) → either-lts.Need-enum-known-f (either-calls t) (either-at t) either.Post
 either-enum-known-f t c = search needs
@@ -114,7 +115,7 @@ either-add-test-2 : (t : ℕ) → either-lts.Need-add-test-2 (either-calls t) (e
 either-add-test-2 t c = let x = (rw (c .before .before .before .before .before .e .given .1) at (c .before .before .before .before .before .before .before .test .ensures)) in omega (arith, c .before .before .before .before .before .before .before .before .before .before .pre, x .0 .entries-fit, x .0 .within)
 
 either-test-requires-2 : (t : ℕ) → either-lts.Need-test-requires-2 (either-calls t) (either-at t) either.Post
-either-test-requires-2 t c κs = let x = (rw (c .before .before .before .before .before .before .e .given .1) at (c .before .before .before .before .before .before .before .before .test .ensures)) in let y = (rw (c .before .before .f .given .1) at (c .before .before .before .before .or-at .ensures)) in (omega (arith, c .before .before .before .before .before .before .before .before .before .before .before .pre, x .0 .on, y .0, y .1), (y .1, c .before .before .before .before .before .before .before .before .before .before .before .pre .1 .1, omega (arith, c .before .before .before .before .before .before .before .before .before .before .before .pre .1 .2, x .0 .entries-fit, y .0)))
+either-test-requires-2 t c κs = let x = (rw (c .before .before .before .before .before .before .e .given .1) at (c .before .before .before .before .before .before .before .before .test .ensures)) in let y = (rw (c .before .before .f .given .1) at (or-says (c .before .before .before .before .before .before .e .given .0 .1 .0) (c .before .before .before .before .before .before .before .before .before .before .before .args .s .now) (c .before .before .before .before .before .before .e .given .0 .0) (rw (c .before .before .before .before .before .before .e .given .1) at (test-ends (c .before .before .before .before .before .before .before .before .before .before .before .args .s .now) (c .before .before .before .before .before .before .before .before .before .before .before .args .at + 1) _ _ false (c .before .before .before .before .before .before .before .before .test .result) _ (c .before .before .before .before .before .before .before .before .test .ensures))) (c .before .before .before .before .or-at .result) (c .before .before .before .before .or-at .ensures))) in (omega (arith, c .before .before .before .before .before .before .before .before .before .before .before .pre, x .0 .on, y .0, y .1), (y .1, c .before .before .before .before .before .before .before .before .before .before .before .pre .1 .1, omega (arith, c .before .before .before .before .before .before .before .before .before .before .before .pre .1 .2, x .0 .entries-fit, y .0)))
 
 either-add-either-of : (t : ℕ) → either-lts.Need-add-either-of (either-calls t) (either-at t) either.Post
 either-add-either-of t c = let x = (rw (c .before .before .before .before .before .before .before .e .given .1) at (c .before .before .before .before .before .before .before .before .before .test .ensures)) in omega (arith, c .before .before .before .before .before .before .before .before .before .before .before .before .pre, x .0 .entries-fit, x .0 .within)
@@ -132,10 +133,10 @@ either-returns : (t : ℕ) → either-lts.Need-returns (either-calls t) (either-
 either-returns t c = λ w. either-left w (c .before .before .before .before .before .before .args .s .now) (c .before .before .before .before .before .before .args .at) (c .before .before .before .before .before .before .args .k) (c .before .before .before .before .before .before .args .rows .now) (c .before .before .before .before .before .before .pre .1 .3) (c .before .p .given .0 .0) (rw (c .before .p .given .1) at (c .before .before .before .test .ensures))
 
 either-returns-2 : (t : ℕ) → either-lts.Need-returns-2 (either-calls t) (either-at t) either.Post
-either-returns-2 t c = λ w. either-word w (c .before .before .before .before .before .before .before .before .before .before .args .s .now) (c .before .before .before .before .before .before .before .before .before .before .args .at) (c .before .before .before .before .before .before .before .before .before .before .args .k) (c .before .before .before .before .before .before .before .before .before .before .args .rows .now) (c .before .before .before .before .before .before .before .before .before .before .pre .1 .3) (c .before .before .before .before .before .e .given .0 .0) (c .before .before .before .before .before .e .given .0 .1 .1 .0) (c .before .before .before .before .before .e .given .0 .1 .1 .1 .0) (c .before .before .before .before .before .e .given .0 .1 .0) _ (rw (c .before .before .before .before .before .e .given .1) at (c .before .before .before .before .before .before .before .test .ensures)) (c .before .p2 .given .0 .0) (rw (c .before .p2 .given .1) at (c .before .before .before .or-at .ensures))
+either-returns-2 t c = λ w. either-word w (c .before .before .before .before .before .before .before .before .before .before .args .s .now) (c .before .before .before .before .before .before .before .before .before .before .args .at) (c .before .before .before .before .before .before .before .before .before .before .args .k) (c .before .before .before .before .before .before .before .before .before .before .args .rows .now) (c .before .before .before .before .before .before .before .before .before .before .pre .1 .3) (c .before .before .before .before .before .e .given .0 .0) (c .before .before .before .before .before .e .given .0 .1 .1 .0) (c .before .before .before .before .before .e .given .0 .1 .1 .1 .0) (c .before .before .before .before .before .e .given .0 .1 .0) _ (rw (c .before .before .before .before .before .e .given .1) at (c .before .before .before .before .before .before .before .test .ensures)) (c .before .p2 .given .0 .0) (rw (c .before .p2 .given .1) at (or-says (c .before .before .before .before .before .e .given .0 .1 .0) (c .before .before .before .before .before .before .before .before .before .before .args .s .now) (c .before .before .before .before .before .e .given .0 .0) (rw (c .before .before .before .before .before .e .given .1) at (test-ends (c .before .before .before .before .before .before .before .before .before .before .args .s .now) (c .before .before .before .before .before .before .before .before .before .before .args .at + 1) _ _ false (c .before .before .before .before .before .before .before .test .result) _ (c .before .before .before .before .before .before .before .test .ensures))) (c .before .before .before .or-at .result) (c .before .before .before .or-at .ensures)))
 
 either-returns-3 : (t : ℕ) → either-lts.Need-returns-3 (either-calls t) (either-at t) either.Post
-either-returns-3 t c = λ w. either-law w (c .before .before .before .before .before .before .before .before .before .before .before .before .before .before .before .before .args .s .now) (c .before .before .before .before .before .before .before .before .before .before .before .before .before .before .before .before .args .at) (c .before .before .before .before .before .before .before .before .before .before .before .before .before .before .before .before .args .k) (c .before .before .before .before .before .before .before .before .before .before .before .before .before .before .before .before .args .rows .now) (c .before .before .before .before .before .before .before .before .before .before .before .before .before .before .before .before .pre .1 .3) (c .before .before .before .before .before .before .before .before .before .before .before .e .given .0 .0) (c .before .before .before .before .before .before .before .before .before .before .before .e .given .0 .1 .1 .0) (c .before .before .before .before .before .before .before .before .before .before .before .e .given .0 .1 .1 .1 .0) (c .before .before .before .before .before .before .before .before .before .before .before .e .given .0 .1 .0) _ (rw (c .before .before .before .before .before .before .before .before .before .before .before .e .given .1) at (c .before .before .before .before .before .before .before .before .before .before .before .before .before .test .ensures)) (c .before .before .before .before .before .before .before .f .given .0 .0) (rw (c .before .before .before .before .before .before .before .f .given .1) at (c .before .before .before .before .before .before .before .before .before .or-at .ensures)) (c .before .before .before .before .test2 .result) (c .before .before .either-of .result) (c .shut .result) _ _ (c .before .before .before .before .test2 .ensures) (c .before .before .either-of .ensures) (c .shut .ensures)
+either-returns-3 t c = λ w. either-law w (c .before .before .before .before .before .before .before .before .before .before .before .before .before .before .before .before .args .s .now) (c .before .before .before .before .before .before .before .before .before .before .before .before .before .before .before .before .args .at) (c .before .before .before .before .before .before .before .before .before .before .before .before .before .before .before .before .args .k) (c .before .before .before .before .before .before .before .before .before .before .before .before .before .before .before .before .args .rows .now) (c .before .before .before .before .before .before .before .before .before .before .before .before .before .before .before .before .pre .1 .3) (c .before .before .before .before .before .before .before .before .before .before .before .e .given .0 .0) (c .before .before .before .before .before .before .before .before .before .before .before .e .given .0 .1 .1 .0) (c .before .before .before .before .before .before .before .before .before .before .before .e .given .0 .1 .1 .1 .0) (c .before .before .before .before .before .before .before .before .before .before .before .e .given .0 .1 .0) _ (rw (c .before .before .before .before .before .before .before .before .before .before .before .e .given .1) at (c .before .before .before .before .before .before .before .before .before .before .before .before .before .test .ensures)) (c .before .before .before .before .before .before .before .f .given .0 .0) (rw (c .before .before .before .before .before .before .before .f .given .1) at (or-says (c .before .before .before .before .before .before .before .before .before .before .before .e .given .0 .1 .0) (c .before .before .before .before .before .before .before .before .before .before .before .before .before .before .before .before .args .s .now) (c .before .before .before .before .before .before .before .before .before .before .before .e .given .0 .0) (rw (c .before .before .before .before .before .before .before .before .before .before .before .e .given .1) at (test-ends (c .before .before .before .before .before .before .before .before .before .before .before .before .before .before .before .before .args .s .now) (c .before .before .before .before .before .before .before .before .before .before .before .before .before .before .before .before .args .at + 1) _ _ false (c .before .before .before .before .before .before .before .before .before .before .before .before .before .test .result) _ (c .before .before .before .before .before .before .before .before .before .before .before .before .before .test .ensures))) (c .before .before .before .before .before .before .before .before .before .or-at .result) (c .before .before .before .before .before .before .before .before .before .or-at .ensures))) (c .before .before .before .before .test2 .result) (c .before .before .either-of .result) (c .shut .result) _ _ (c .before .before .before .before .test2 .ensures) (c .before .before .either-of .ensures) (c .shut .ensures)
 
 abbrev path-Inv-loop : path-lts.InvT-loop
 path-Inv-loop s at k rows₀ from₀ entries₀ bytes₀ before₀ rows from entries bytes before = Went s at k rows₀ from entries bytes before rows
@@ -198,19 +199,19 @@ path-loop-again : (t : ℕ) → path-lts.Need-loop-again (path-calls t) (path-at
 path-loop-again t c = went-more (c .before .before .before .before .before .before .before .before .before .before .args .s .now) (c .before .before .before .before .before .before .before .before .before .before .args .at) (c .before .before .before .before .before .before .before .before .before .before .args .k) (c .before .before .before .before .before .before .before .before .before .before .args .rows .now) (c .before .before .before .before .before .before .before .before .loop .from) (c .before .before .before .before .before .before .before .before .loop .entries) (c .before .before .before .before .before .before .before .before .loop .bytes) (c .before .before .before .before .before .before .before .before .loop .before) (c .before .before .before .before .before .before .before .before .loop .rows) (c .before .before .before .before .before .before .before .before .loop .inv) (c .before .before .before .before .e .given .0 .0) (c .before .before .before .before .e .given .0 .1 .1 .0) (c .before .before .before .before .e .given .0 .1 .1 .1 .0) (c .before .before .before .before .e .given .0 .1 .0) _ (rw (c .before .before .before .before .e .given .1) at (c .before .before .before .before .before .before .step .ensures)) (sym (c .before .before .byte-at .ensures) ∙ c .if2 .left)
 
 step-start-at-requires : (t : ℕ) → step-lts.Need-start-at-requires (step-calls t) (step-at t) step.Post
-step-start-at-requires t c κs = c .before .pre .1 .0
+step-start-at-requires t c κs = search needs
 
 step-enum-known-p : (t : ℕ) → step-lts.Need-enum-known-p (step-calls t) (step-at t) step.Post
 step-enum-known-p t c = search needs
 
 step-cast-t17 : (t : ℕ) → step-lts.Need-cast-t17 (step-calls t) (step-at t) step.Post
-step-cast-t17 t c = let y = (rw (c .before .p .given .1) at (c .before .before .before .start-at .ensures)) in omega (arith, c .before .before .before .before .before .pre, y .0)
+step-cast-t17 t c = let y = (rw (c .before .p .given .1) at (start-says (c .before .before .before .before .before .args .s .now) (c .before .before .before .before .before .args .at) (c .before .before .before .before .before .pre .1 .0) (c .before .before .before .start-at .result) (c .before .before .before .start-at .ensures))) in omega (arith, c .before .before .before .before .before .pre, y .0)
 
 step-enum-known-e : (t : ℕ) → step-lts.Need-enum-known-e (step-calls t) (step-at t) step.Post
 step-enum-known-e t c = search needs
 
 step-cast-t18 : (t : ℕ) → step-lts.Need-cast-t18 (step-calls t) (step-at t) step.Post
-step-cast-t18 t c = let y = (rw (c .before .e .given .1) at (c .before .before .before .start-at .ensures)) in omega (arith, c .before .before .before .before .before .pre, y .1)
+step-cast-t18 t c = let y = (rw (c .before .e .given .1) at (start-says (c .before .before .before .before .before .args .s .now) (c .before .before .before .before .before .args .at) (c .before .before .before .before .before .pre .1 .0) (c .before .before .before .start-at .result) (c .before .before .before .start-at .ensures))) in omega (arith, c .before .before .before .before .before .pre, y .1)
 
 step-step-of-requires : (t : ℕ) → step-lts.Need-step-of-requires (step-calls t) (step-at t) step.Post
 step-step-of-requires t c κs = ((omega arith, omega arith), omega (arith, c .before .before .before .before .before .before .pre))
@@ -219,10 +220,10 @@ step-enum-told : (t : ℕ) → step-lts.Need-enum-told (step-calls t) (step-at t
 step-enum-told t c = search needs
 
 step-add-test : (t : ℕ) → step-lts.Need-add-test (step-calls t) (step-at t) step.Post
-step-add-test t c = omega (arith, c .before .before .before .before .good, front (c .before .before .before .before .args .s .now) (c .before .before .before .before .args .at) 63 (rw (c .enum-told .given .1) at (c .before .before .start-at .ensures)) (omega arith) .0)
+step-add-test t c = omega (arith, c .before .before .before .before .good, front (c .before .before .before .before .args .s .now) (c .before .before .before .before .args .at) 63 (rw (c .enum-told .given .1) at (start-says (c .before .before .before .before .args .s .now) (c .before .before .before .before .args .at) (c .before .before .before .before .pre .1 .0) (c .before .before .start-at .result) (c .before .before .start-at .ensures))) (omega arith) .0)
 
 step-test-requires : (t : ℕ) → step-lts.Need-test-requires (step-calls t) (step-at t) step.Post
-step-test-requires t c κs = let l = front (c .before .before .before .before .before .args .s .now) (c .before .before .before .before .before .args .at) 63 (rw (c .before .enum-told .given .1) at (c .before .before .before .start-at .ensures)) (omega arith) .0 in (omega (arith, c .before .before .before .before .before .pre, l), (omega (arith, l), c .before .before .before .before .before .pre .1 .1, omega (arith, c .before .before .before .before .before .pre .1 .2)))
+step-test-requires t c κs = let l = front (c .before .before .before .before .before .args .s .now) (c .before .before .before .before .before .args .at) 63 (rw (c .before .enum-told .given .1) at (start-says (c .before .before .before .before .before .args .s .now) (c .before .before .before .before .before .args .at) (c .before .before .before .before .before .pre .1 .0) (c .before .before .before .start-at .result) (c .before .before .before .start-at .ensures))) (omega arith) .0 in (omega (arith, c .before .before .before .before .before .pre, l), (omega (arith, l), c .before .before .before .before .before .pre .1 .1, omega (arith, c .before .before .before .before .before .pre .1 .2)))
 
 step-step-of-requires-2 : (t : ℕ) → step-lts.Need-step-of-requires-2 (step-calls t) (step-at t) step.Post
 step-step-of-requires-2 t c κs = (test-small (c .before .before .before .before .before .before .before .args .s .now) (c .before .before .before .before .before .before .before .args .at + 1) _ _ false (c .before .test .result) _ (c .before .before .before .before .before .before .before .pre .1 .1) (c .before .test .ensures), omega (arith, c .before .before .before .before .before .before .before .pre))
@@ -231,7 +232,7 @@ step-enum-known-f : (t : ℕ) → step-lts.Need-enum-known-f (step-calls t) (ste
 step-enum-known-f t c = search needs
 
 step-test-requires-2 : (t : ℕ) → step-lts.Need-test-requires-2 (step-calls t) (step-at t) step.Post
-step-test-requires-2 t c κs = let x = (rw (c .before .before .f .given .1) at (c .before .before .before .before .start-at .ensures)) in (omega (arith, c .before .before .before .before .before .before .pre, x .0, x .1), (x .1, c .before .before .before .before .before .before .pre .1 .1, omega (arith, c .before .before .before .before .before .before .pre .1 .2, x .0)))
+step-test-requires-2 t c κs = let x = (rw (c .before .before .f .given .1) at (start-says (c .before .before .before .before .before .before .args .s .now) (c .before .before .before .before .before .before .args .at) (c .before .before .before .before .before .before .pre .1 .0) (c .before .before .before .before .start-at .result) (c .before .before .before .before .start-at .ensures))) in (omega (arith, c .before .before .before .before .before .before .pre, x .0, x .1), (x .1, c .before .before .before .before .before .before .pre .1 .1, omega (arith, c .before .before .before .before .before .before .pre .1 .2, x .0)))
 
 step-slice-aggregate-shut : (t : ℕ) → step-lts.Need-slice-aggregate-shut (step-calls t) (step-at t) step.Post
 step-slice-aggregate-shut t c = search needs
@@ -243,37 +244,37 @@ step-step-of-requires-3 : (t : ℕ) → step-lts.Need-step-of-requires-3 (step-c
 step-step-of-requires-3 t c κs = (shut-small (c .before .before .before .before .before .before .before .before .before .before .args .s .now) (c .before .before .before .before .before .before .f .given .0 .0) _ _ false _ (c .before .before .before .test2 .result) (c .before .shut .result) _ (c .before .before .before .before .before .before .before .before .before .before .pre .1 .1) (c .before .before .before .test2 .ensures) (c .before .shut .ensures), omega (arith, c .before .before .before .before .before .before .before .before .before .before .pre))
 
 step-returns : (t : ℕ) → step-lts.Need-returns (step-calls t) (step-at t) step.Post
-step-returns t c = rw (c .before .p .given .1) at (c .before .before .before .start-at .ensures)
+step-returns t c = rw (c .before .p .given .1) at (start-says (c .before .before .before .before .before .args .s .now) (c .before .before .before .before .before .args .at) (c .before .before .before .before .before .pre .1 .0) (c .before .before .before .start-at .result) (c .before .before .before .start-at .ensures))
 
 step-returns-2 : (t : ℕ) → step-lts.Need-returns-2 (step-calls t) (step-at t) step.Post
-step-returns-2 t c = plain-law (c .before .before .before .before .before .before .before .args .s .now) (c .before .before .before .before .before .before .before .args .at) (c .before .before .before .before .before .before .before .args .k) (c .before .before .before .before .before .before .before .args .before) (c .before .before .before .before .before .before .before .args .rows .now) (c .before .before .before .e .given .0 .0) (c .before .before .before .e .given .0 .1 .0) (c .before .before .before .e .given .0 .1 .1 .0) (c .step-of .result) _ (rw (c .before .before .before .e .given .1) at (c .before .before .before .before .before .start-at .ensures)) (c .step-of .ensures)
+step-returns-2 t c = plain-law (c .before .before .before .before .before .before .before .args .s .now) (c .before .before .before .before .before .before .before .args .at) (c .before .before .before .before .before .before .before .args .k) (c .before .before .before .before .before .before .before .args .before) (c .before .before .before .before .before .before .before .args .rows .now) (c .before .before .before .e .given .0 .0) (c .before .before .before .e .given .0 .1 .0) (c .before .before .before .e .given .0 .1 .1 .0) (c .step-of .result) _ (rw (c .before .before .before .e .given .1) at (start-says (c .before .before .before .before .before .before .before .args .s .now) (c .before .before .before .before .before .before .before .args .at) (c .before .before .before .before .before .before .before .pre .1 .0) (c .before .before .before .before .before .start-at .result) (c .before .before .before .before .before .start-at .ensures))) (c .step-of .ensures)
 
 step-returns-3 : (t : ℕ) → step-lts.Need-returns-3 (step-calls t) (step-at t) step.Post
-step-returns-3 t c = passing-law (c .before .before .before .before .before .before .before .before .args .s .now) (c .before .before .before .before .before .before .before .before .args .at) (c .before .before .before .before .before .before .before .before .args .k) (c .before .before .before .before .before .before .before .before .args .before) (c .before .before .before .before .before .before .before .before .args .rows .now) (c .before .before .test .result) (c .step-of2 .result) _ _ (rw (c .before .before .before .before .enum-told .given .1) at (c .before .before .before .before .before .before .start-at .ensures)) (c .before .before .test .ensures) (c .step-of2 .ensures)
+step-returns-3 t c = passing-law (c .before .before .before .before .before .before .before .before .args .s .now) (c .before .before .before .before .before .before .before .before .args .at) (c .before .before .before .before .before .before .before .before .args .k) (c .before .before .before .before .before .before .before .before .args .before) (c .before .before .before .before .before .before .before .before .args .rows .now) (c .before .before .test .result) (c .step-of2 .result) _ _ (rw (c .before .before .before .before .enum-told .given .1) at (start-says (c .before .before .before .before .before .before .before .before .args .s .now) (c .before .before .before .before .before .before .before .before .args .at) (c .before .before .before .before .before .before .before .before .pre .1 .0) (c .before .before .before .before .before .before .start-at .result) (c .before .before .before .before .before .before .start-at .ensures))) (c .before .before .test .ensures) (c .step-of2 .ensures)
 
 step-returns-4 : (t : ℕ) → step-lts.Need-returns-4 (step-calls t) (step-at t) step.Post
-step-returns-4 t c = while-law (c .before .before .before .before .before .before .before .before .before .before .before .args .s .now) (c .before .before .before .before .before .before .before .before .before .before .before .args .at) (c .before .before .before .before .before .before .before .before .before .before .before .args .k) (c .before .before .before .before .before .before .before .before .before .before .before .args .before) (c .before .before .before .before .before .before .before .before .before .before .before .args .rows .now) (c .before .before .before .before .before .before .before .f .given .0 .0) (c .before .before .before .before .before .before .before .f .given .0 .1 .0) (rw (c .before .before .before .before .before .before .before .f .given .1) at (c .before .before .before .before .before .before .before .before .before .start-at .ensures)) (c .before .before .before .before .test2 .result) (c .before .before .shut .result) (c .step-of3 .result) _ _ (c .before .before .before .before .test2 .ensures) (c .before .before .shut .ensures) (c .step-of3 .ensures)
+step-returns-4 t c = while-law (c .before .before .before .before .before .before .before .before .before .before .before .args .s .now) (c .before .before .before .before .before .before .before .before .before .before .before .args .at) (c .before .before .before .before .before .before .before .before .before .before .before .args .k) (c .before .before .before .before .before .before .before .before .before .before .before .args .before) (c .before .before .before .before .before .before .before .before .before .before .before .args .rows .now) (c .before .before .before .before .before .before .before .f .given .0 .0) (c .before .before .before .before .before .before .before .f .given .0 .1 .0) (rw (c .before .before .before .before .before .before .before .f .given .1) at (start-says (c .before .before .before .before .before .before .before .before .before .before .before .args .s .now) (c .before .before .before .before .before .before .before .before .before .before .before .args .at) (c .before .before .before .before .before .before .before .before .before .before .before .pre .1 .0) (c .before .before .before .before .before .before .before .before .before .start-at .result) (c .before .before .before .before .before .before .before .before .before .start-at .ensures))) (c .before .before .before .before .test2 .result) (c .before .before .shut .result) (c .step-of3 .result) _ _ (c .before .before .before .before .test2 .ensures) (c .before .before .shut .ensures) (c .step-of3 .ensures)
 
 test-begins-at-requires : (t : ℕ) → test-lts.Need-begins-at-requires (test-calls t) (test-at t) test.Post
-test-begins-at-requires t c κs = c .before .pre .1 .0
+test-begins-at-requires t c κs = search needs
 
 test-enum-known-p : (t : ℕ) → test-lts.Need-enum-known-p (test-calls t) (test-at t) test.Post
 test-enum-known-p t c = search needs
 
 test-cast-t13 : (t : ℕ) → test-lts.Need-cast-t13 (test-calls t) (test-at t) test.Post
-test-cast-t13 t c = let y = (rw (c .before .p .given .1) at (c .before .before .before .begins-at .ensures)) in omega (arith, c .before .before .before .before .before .pre, y .0)
+test-cast-t13 t c = let y = (rw (c .before .p .given .1) at (begins-says (c .before .before .before .before .before .args .s .now) (c .before .before .before .before .before .args .at) (c .before .before .before .before .before .pre .1 .0) (c .before .before .before .before .before .args .after) (c .before .before .before .begins-at .result) (c .before .before .before .begins-at .ensures))) in omega (arith, c .before .before .before .before .before .pre, y .0)
 
 test-enum-known-e : (t : ℕ) → test-lts.Need-enum-known-e (test-calls t) (test-at t) test.Post
 test-enum-known-e t c = search needs
 
 test-leaf-requires : (t : ℕ) → test-lts.Need-leaf-requires (test-calls t) (test-at t) test.Post
-test-leaf-requires t c κs = let y = (rw (c .before .before .e .given .1) at (c .before .before .before .before .begins-at .ensures)) in (omega (arith, c .before .before .before .before .before .before .pre, y .within), omega (arith, c .before .before .before .before .before .before .pre))
+test-leaf-requires t c κs = let y = (rw (c .before .before .e .given .1) at (begins-says (c .before .before .before .before .before .before .args .s .now) (c .before .before .before .before .before .before .args .at) (c .before .before .before .before .before .before .pre .1 .0) (c .before .before .before .before .before .before .args .after) (c .before .before .before .before .begins-at .result) (c .before .before .before .before .begins-at .ensures))) in (omega (arith, c .before .before .before .before .before .before .pre, y .within), omega (arith, c .before .before .before .before .before .before .pre))
 
 test-enum-known-f : (t : ℕ) → test-lts.Need-enum-known-f (test-calls t) (test-at t) test.Post
 test-enum-known-f t c = search needs
 
 test-test-requires : (t : ℕ) → test-lts.Need-test-requires (test-calls t) (test-at t) test.Post
-test-test-requires t c κs = let x = (rw (c .before .before .f .given .1) at (c .before .before .before .before .begins-at .ensures)) in (omega (arith, c .before .before .before .before .before .before .pre, x .0, x .1), (x .1, c .before .before .before .before .before .before .pre .1 .1, omega (arith, c .before .before .before .before .before .before .pre .1 .2, x .0)))
+test-test-requires t c κs = let x = (rw (c .before .before .f .given .1) at (begins-says (c .before .before .before .before .before .before .args .s .now) (c .before .before .before .before .before .before .args .at) (c .before .before .before .before .before .before .pre .1 .0) (c .before .before .before .before .before .before .args .after) (c .before .before .before .before .begins-at .result) (c .before .before .before .before .begins-at .ensures))) in (omega (arith, c .before .before .before .before .before .before .pre, x .0, x .1), (x .1, c .before .before .before .before .before .before .pre .1 .1, omega (arith, c .before .before .before .before .before .before .pre .1 .2, x .0)))
 
 test-except-requires : (t : ℕ) → test-lts.Need-except-requires (test-calls t) (test-at t) test.Post
 test-except-requires t c κs = (test-small (c .before .before .before .before .before .before .before .before .args .s .now) (c .before .before .before .before .f .given .0 .0) _ _ true (c .before .test .result) _ (c .before .before .before .before .before .before .before .before .pre .1 .1) (c .before .test .ensures), omega (arith, c .before .before .before .before .before .before .before .before .pre))
@@ -282,37 +283,37 @@ test-enum-told : (t : ℕ) → test-lts.Need-enum-told (test-calls t) (test-at t
 test-enum-told t c = search needs
 
 test-either-requires : (t : ℕ) → test-lts.Need-either-requires (test-calls t) (test-at t) test.Post
-test-either-requires t c κs = let h = (rw (c .before .enum-told .given .1) at (c .before .before .before .begins-at .ensures)) in let l = front (c .before .before .before .before .before .args .s .now) (c .before .before .before .before .before .args .at) 40 h (omega arith) .0 in (omega (arith, c .before .before .before .before .before .pre, l), (c .before .before .before .before .before .pre .1 .0, c .before .before .before .before .before .pre .1 .1, c .before .before .before .before .before .pre .1 .2, h))
+test-either-requires t c κs = let h = (rw (c .before .enum-told .given .1) at (begins-says (c .before .before .before .before .before .args .s .now) (c .before .before .before .before .before .args .at) (c .before .before .before .before .before .pre .1 .0) (c .before .before .before .before .before .args .after) (c .before .before .before .begins-at .result) (c .before .before .before .begins-at .ensures))) in let l = front (c .before .before .before .before .before .args .s .now) (c .before .before .before .before .before .args .at) 40 h (omega arith) .0 in (omega (arith, c .before .before .before .before .before .pre, l), (c .before .before .before .before .before .pre .1 .0, c .before .before .before .before .before .pre .1 .1, c .before .before .before .before .before .pre .1 .2, h))
 
 test-enum-told-2 : (t : ℕ) → test-lts.Need-enum-told-2 (test-calls t) (test-at t) test.Post
 test-enum-told-2 t c = search needs
 
 test-add-path : (t : ℕ) → test-lts.Need-add-path (test-calls t) (test-at t) test.Post
-test-add-path t c = omega (arith, c .before .before .before .before .good, front (c .before .before .before .before .args .s .now) (c .before .before .before .before .args .at) 60 (rw (c .enum-told2 .given .1) at (c .before .before .begins-at .ensures)) (omega arith) .0)
+test-add-path t c = omega (arith, c .before .before .before .before .good, front (c .before .before .before .before .args .s .now) (c .before .before .before .before .args .at) 60 (rw (c .enum-told2 .given .1) at (begins-says (c .before .before .before .before .args .s .now) (c .before .before .before .before .args .at) (c .before .before .before .before .pre .1 .0) (c .before .before .before .before .args .after) (c .before .before .begins-at .result) (c .before .before .begins-at .ensures))) (omega arith) .0)
 
 test-add-path-2 : (t : ℕ) → test-lts.Need-add-path-2 (test-calls t) (test-at t) test.Post
 test-add-path-2 t c = omega (arith, c .before .before .before .before .pre)
 
 test-path-requires : (t : ℕ) → test-lts.Need-path-requires (test-calls t) (test-at t) test.Post
-test-path-requires t c κs = let l = front (c .before .before .before .before .before .args .s .now) (c .before .before .before .before .before .args .at) 60 (rw (c .before .enum-told2 .given .1) at (c .before .before .before .begins-at .ensures)) (omega arith) .0 in (omega (arith, c .before .before .before .before .before .pre, l), (omega (arith, l), c .before .before .before .before .before .pre .1 .1, omega (arith, c .before .before .before .before .before .pre .1 .2)))
+test-path-requires t c κs = let l = front (c .before .before .before .before .before .args .s .now) (c .before .before .before .before .before .args .at) 60 (rw (c .before .enum-told2 .given .1) at (begins-says (c .before .before .before .before .before .args .s .now) (c .before .before .before .before .before .args .at) (c .before .before .before .before .before .pre .1 .0) (c .before .before .before .before .before .args .after) (c .before .before .before .begins-at .result) (c .before .before .before .begins-at .ensures))) (omega arith) .0 in (omega (arith, c .before .before .before .before .before .pre, l), (omega (arith, l), c .before .before .before .before .before .pre .1 .1, omega (arith, c .before .before .before .before .before .pre .1 .2)))
 
 test-closing-requires : (t : ℕ) → test-lts.Need-closing-requires (test-calls t) (test-at t) test.Post
 test-closing-requires t c κs = path-small (c .before .before .before .before .before .before .args .s .now) (c .before .before .before .before .before .before .args .at + 1) _ _ (c .path .result) _ (c .before .before .before .before .before .before .pre .1 .1) (c .path .ensures)
 
 test-returns : (t : ℕ) → test-lts.Need-returns (test-calls t) (test-at t) test.Post
-test-returns t c = rw (c .before .p .given .1) at (c .before .before .before .begins-at .ensures)
+test-returns t c = rw (c .before .p .given .1) at (begins-says (c .before .before .before .before .before .args .s .now) (c .before .before .before .before .before .args .at) (c .before .before .before .before .before .pre .1 .0) (c .before .before .before .before .before .args .after) (c .before .before .before .begins-at .result) (c .before .before .before .begins-at .ensures))
 
 test-returns-2 : (t : ℕ) → test-lts.Need-returns-2 (test-calls t) (test-at t) test.Post
-test-returns-2 t c = leaf-law (c .before .before .before .before .before .before .before .args .after) (c .before .before .before .before .before .before .before .args .s .now) (c .before .before .before .before .before .before .before .args .at) (c .before .before .before .before .before .before .before .args .k) (c .before .before .before .e .given .0 .0) (c .before .before .before .e .given .0 .1 .0) (c .before .before .before .before .before .before .before .args .rows .now) _ (c .leaf .result) (rw (c .before .before .before .e .given .1) at (c .before .before .before .before .before .begins-at .ensures)) (c .leaf .ensures .0) (c .leaf .ensures .1)
+test-returns-2 t c = leaf-law (c .before .before .before .before .before .before .before .args .after) (c .before .before .before .before .before .before .before .args .s .now) (c .before .before .before .before .before .before .before .args .at) (c .before .before .before .before .before .before .before .args .k) (c .before .before .before .e .given .0 .0) (c .before .before .before .e .given .0 .1 .0) (c .before .before .before .before .before .before .before .args .rows .now) _ (c .leaf .result) (rw (c .before .before .before .e .given .1) at (begins-says (c .before .before .before .before .before .before .before .args .s .now) (c .before .before .before .before .before .before .before .args .at) (c .before .before .before .before .before .before .before .pre .1 .0) (c .before .before .before .before .before .before .before .args .after) (c .before .before .before .before .before .begins-at .result) (c .before .before .before .before .before .begins-at .ensures))) (c .leaf .ensures .0) (c .leaf .ensures .1)
 
 test-returns-3 : (t : ℕ) → test-lts.Need-returns-3 (test-calls t) (test-at t) test.Post
-test-returns-3 t c = except-law (c .before .before .before .before .before .before .before .before .before .args .after) (c .before .before .before .before .before .before .before .before .before .args .s .now) (c .before .before .before .before .before .before .before .before .before .args .at) (c .before .before .before .before .before .before .before .before .before .args .k) (c .before .before .before .before .before .before .before .before .before .args .rows .now) _ (c .except .result) (c .before .before .before .before .before .f .given .0 .0) (c .before .before .test .result) _ (rw (c .before .before .before .before .before .f .given .1) at (c .before .before .before .before .before .before .before .begins-at .ensures)) (c .before .before .test .ensures) (c .except .ensures)
+test-returns-3 t c = except-law (c .before .before .before .before .before .before .before .before .before .args .after) (c .before .before .before .before .before .before .before .before .before .args .s .now) (c .before .before .before .before .before .before .before .before .before .args .at) (c .before .before .before .before .before .before .before .before .before .args .k) (c .before .before .before .before .before .before .before .before .before .args .rows .now) _ (c .except .result) (c .before .before .before .before .before .f .given .0 .0) (c .before .before .test .result) _ (rw (c .before .before .before .before .before .f .given .1) at (begins-says (c .before .before .before .before .before .before .before .before .before .args .s .now) (c .before .before .before .before .before .before .before .before .before .args .at) (c .before .before .before .before .before .before .before .before .before .pre .1 .0) (c .before .before .before .before .before .before .before .before .before .args .after) (c .before .before .before .before .before .before .before .begins-at .result) (c .before .before .before .before .before .before .before .begins-at .ensures))) (c .before .before .test .ensures) (c .except .ensures)
 
 test-returns-4 : (t : ℕ) → test-lts.Need-returns-4 (test-calls t) (test-at t) test.Post
 test-returns-4 t c = c .either .ensures (c .before .before .before .before .before .before .args .after)
 
 test-returns-5 : (t : ℕ) → test-lts.Need-returns-5 (test-calls t) (test-at t) test.Post
-test-returns-5 t c = begins-law (c .before .before .before .before .before .before .before .args .after) (c .before .before .before .before .before .before .before .args .s .now) (c .before .before .before .before .before .before .before .args .at) (c .before .before .before .before .before .before .before .args .k) (c .before .before .before .before .before .before .before .args .rows .now) _ (c .closing .result) (c .before .path .result) (rw (c .before .before .before .enum-told2 .given .1) at (c .before .before .before .before .before .begins-at .ensures)) (c .before .path .ensures) (c .closing .ensures)
+test-returns-5 t c = begins-law (c .before .before .before .before .before .before .before .args .after) (c .before .before .before .before .before .before .before .args .s .now) (c .before .before .before .before .before .before .before .args .at) (c .before .before .before .before .before .before .before .args .k) (c .before .before .before .before .before .before .before .args .rows .now) _ (c .closing .result) (c .before .path .result) (rw (c .before .before .before .enum-told2 .given .1) at (begins-says (c .before .before .before .before .before .before .before .args .s .now) (c .before .before .before .before .before .before .before .args .at) (c .before .before .before .before .before .before .before .pre .1 .0) (c .before .before .before .before .before .before .before .args .after) (c .before .before .before .before .before .begins-at .result) (c .before .before .before .before .before .begins-at .ensures))) (c .before .path .ensures) (c .closing .ensures)
 
 pub +either+path+step+test-spec : {M : Type 1} → statement M
 +either+path+step+test-spec = close μ-either μ-path μ-step μ-test (λ t. either-lts.spec (

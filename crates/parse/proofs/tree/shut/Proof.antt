@@ -1,4 +1,5 @@
 use native.Mathlib.Omega.{arith}
+use Rattle.words.proofs.WordLaws.{word-says}
 use Rattle.parse.proofs.PartLaws.{shut-bad, shut-missing, shut-there}
 use borrow.Author.Needs.{needs}
 use Rattle.parse.proofs.tree.shut.Statement.{statement}
@@ -14,28 +15,28 @@ cast-word-at : tie.Need-cast-word-at
 cast-word-at c = search needs
 
 word-at-requires : tie.Need-word-at-requires
-word-at-requires c κs = rw (c .before .p2 .given .1) at (c .before .before .before .before .before .pre .0)
+word-at-requires c κs = search needs
 
 enum-known-q : tie.Need-enum-known-q
 enum-known-q c = search needs
 
 cast-t15 : tie.Need-cast-t15
-cast-t15 c = let y = (rw (c .before .q .given .1) at (c .before .before .before .word-at .ensures)) in omega (arith, c .before .before .before .before .before .before .before .before .before .pre .1, y .0)
+cast-t15 c = let y = (rw (c .before .q .given .1) at (word-says (c .before .before .before .before .before .before .before .before .before .args .word .now) (c .before .before .before .before .before .before .before .before .before .args .s .now) (c .before .before .before .before .before .p2 .given .0 .0) (rw (c .before .before .before .before .before .p2 .given .1) at (c .before .before .before .before .before .before .before .before .before .pre .0)) (c .before .before .before .word-at .result) (c .before .before .before .word-at .ensures))) in omega (arith, c .before .before .before .before .before .before .before .before .before .pre .1, y .0)
 
 enum-known-f : tie.Need-enum-known-f
 enum-known-f c = search needs
 
 cast-t16 : tie.Need-cast-t16
-cast-t16 c = let y = (rw (c .before .f .given .1) at (c .before .before .before .word-at .ensures)) in omega (arith, c .before .before .before .before .before .before .before .before .before .pre .1, y .1)
+cast-t16 c = let y = (rw (c .before .f .given .1) at (word-says (c .before .before .before .before .before .before .before .before .before .args .word .now) (c .before .before .before .before .before .before .before .before .before .args .s .now) (c .before .before .before .before .before .p2 .given .0 .0) (rw (c .before .before .before .before .before .p2 .given .1) at (c .before .before .before .before .before .before .before .before .before .pre .0)) (c .before .before .before .word-at .result) (c .before .before .before .word-at .ensures))) in omega (arith, c .before .before .before .before .before .before .before .before .before .pre .1, y .1)
 
 returns : tie.Need-returns
 returns c = shut-bad _ _ (c .before .p .given .1) _ _
 
 returns-2 : tie.Need-returns-2
-returns-2 c = shut-missing _ _ _ _ _ (c .before .before .before .before .before .p2 .given .1) _ _ _ _ (c .before .q .given .1) (c .before .before .before .word-at .ensures)
+returns-2 c = shut-missing _ _ _ _ _ (c .before .before .before .before .before .p2 .given .1) _ _ _ _ (c .before .q .given .1) (word-says (c .before .before .before .before .before .before .before .before .before .args .word .now) (c .before .before .before .before .before .before .before .before .before .args .s .now) (c .before .before .before .before .before .p2 .given .0 .0) (rw (c .before .before .before .before .before .p2 .given .1) at (c .before .before .before .before .before .before .before .before .before .pre .0)) (c .before .before .before .word-at .result) (c .before .before .before .word-at .ensures))
 
 returns-3 : tie.Need-returns-3
-returns-3 c = shut-there _ _ _ _ _ (c .before .before .before .before .before .p2 .given .1) _ _ _ _ (c .before .f .given .1) (c .before .before .before .word-at .ensures)
+returns-3 c = shut-there _ _ _ _ _ (c .before .before .before .before .before .p2 .given .1) _ _ _ _ (c .before .f .given .1) (word-says (c .before .before .before .before .before .before .before .before .before .args .word .now) (c .before .before .before .before .before .before .before .before .before .args .s .now) (c .before .before .before .before .before .p2 .given .0 .0) (rw (c .before .before .before .before .before .p2 .given .1) at (c .before .before .before .before .before .before .before .before .before .pre .0)) (c .before .before .before .word-at .result) (c .before .before .before .word-at .ensures))
 
 pub shut-spec : {M : Type 1} → statement M
 shut-spec =

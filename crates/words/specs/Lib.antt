@@ -1,0 +1,3 @@
+-- What stands at a cursor, told by the bytes from there.
+pub mod Words
+pub mod Begins
