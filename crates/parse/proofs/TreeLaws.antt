@@ -22,10 +22,11 @@ use Rattle.parse.specs.declared.begins.Begin.the-variants as B
 use Rattle.parse.specs.declared.begins.Start.the-variants as S
 use Rattle.parse.specs.declared.tree.Parsed.{Parsed}
 use Rattle.parse.specs.declared.tree.Parsed.the-variants.{Done, Bad}
-use Rattle.parse.specs.Rows.{noteRow, formOf, formEntries, formBytes, leafTree, testEntries, testBytes, stepRow, noteT, noteP, noteS, entriesT, entriesS}
+use Rattle.spell.specs.Forms.{formEntries, formBytes}
+use Rattle.parse.specs.Rows.{noteRow, formOf, leafTree, testEntries, testBytes, stepRow, noteT, noteP, noteS, entriesT, entriesS}
 use Rattle.parse.specs.Promises.{headOf, OrAt, LeafAt, BeginsAt, StartAt, leafBytes, Small, Ends, Shut, Closing, Excepted, EitherOf, StepOf, noteTest, StepReads, TestParsed, PathParsed, StepParsed, Went}
 use Rattle.parse.proofs.WordLaws.{front}
-use Rattle.parse.proofs.PartLaws.{entries-few, bytes-few}
+use Rattle.spell.proofs.FormLaws.{entries-few, bytes-few}
 use Rattle.paths.specs.Answer.{textMost}
 
 -- ---- what a caller needs of a part: its counts are small, it ends within the bytes

@@ -29,7 +29,8 @@ use Rattle.parse.specs.declared.tree.Parsed.{Parsed}
 use Rattle.parse.specs.declared.tree.Parsed.the-variants.{Done, Bad}
 use Rattle.parse.specs.declared.tree.Outcome.{Outcome}
 use Rattle.parse.specs.declared.tree.Outcome.the-variants as O
-use Rattle.parse.specs.Rows.{noRows, noteRow, formOf, formEntries, formBytes, leafTree, testEntries, testBytes, noteT, noteP, noteS}
+use Rattle.spell.specs.Forms.{formEntries, formBytes}
+use Rattle.parse.specs.Rows.{noRows, noteRow, formOf, leafTree, testEntries, testBytes, noteT, noteP, noteS}
 use Rattle.terms.specs.Limits.{labelMost}
 
 -- ---- bytes, words and numbers

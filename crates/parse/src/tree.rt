@@ -6,7 +6,7 @@ ghost use mathlib.Core.Bool.{Bool, true, false};
 ghost use Prim.Native.Nat.{_+_, _*_, _-_, _<_, _≤_};
 ghost use lib.ListN.{length, drop};
 ghost use Rattle.parse.specs.declared.tree.Parsed.the-variants.{Done};
-ghost use Rattle.parse.specs.Rows.{noteRow, formEntries, formBytes, leafTree, noteT};
+ghost use Rattle.parse.specs.Rows.{noteRow, leafTree, noteT};
 ghost use Rattle.parse.specs.Promises.{headOf, leafBytes, Small, Ends, Shut, Closing, Excepted, EitherOf, StepOf, TestParsed, PathParsed, StepParsed, Read, TreeRead};
 ghost use Rattle.paths.specs.Answer.{textMost};
 use crate::begins::Begin;
@@ -17,6 +17,8 @@ use crate::begins::start_at;
 use crate::words::Word;
 use crate::words::byte_at;
 use crate::words::word_at;
+use spell::form::own_bytes;
+use spell::form::own_entries;
 
 // How many bytes a text has at most.
 const TEXT_MOST: usize = 1024;
@@ -41,30 +43,6 @@ pub enum Outcome {
 }
 
 // ---- rows
-
-// How many entries a form has besides those of its parts.
-fn own_entries(form: u16) -> u16
-    ensures { λ r. ⌜ r ≡ formEntries form ⌝ }
-{
-    match form {
-        0..=9 => 1,
-        14 => 4,
-        _ => 2,
-    }
-}
-
-// How many bytes their records have.
-fn own_bytes(form: u16) -> u16
-    ensures { λ r. ⌜ r ≡ formBytes form ⌝ }
-{
-    match form {
-        0..=5 => 8,
-        6..=9 => 6,
-        10..=13 => 12,
-        14 => 30,
-        _ => 14,
-    }
-}
 
 // Fills row n, where there is such a row: a text with more entries is refused, and its rows are not read.
 fn note_row(rows: &mut [u16; ROW_PLACES], n: u16, form: u16, a: u16, b: u16)

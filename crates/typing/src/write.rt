@@ -11,12 +11,10 @@ ghost use Rattle.parse.specs.Rows.{HeldT};
 ghost use Rattle.typing.specs.Writing.{TestAsks, TestPuts, StepAsks, StepPuts, StepsAsk, StepsPut};
 ghost use Rattle.terms.specs.Limits.{entriesMost};
 use crate::part::part_at;
-use crate::put::Written;
-use crate::put::last;
-use crate::put::put_record;
-use crate::step::put_plain;
-use crate::step::put_tested;
 use parse::tree::ROW_PLACES;
+use spell::own::Written;
+use spell::own::put_part;
+use spell::put::last;
 
 // What was written is handed on field by field: handed on as it came, it would be copied as a whole
 // right after its fields were stored one by one, and the processor waits for that.
@@ -30,8 +28,7 @@ fn write(rows: &[u16; ROW_PLACES], n: u16, rule: &mut [u8], w: Written) -> Writt
     let part = part_at(rows, n);
     let form = part.form;
     match form {
-        1 => put_record(rule, w, 1, 0, 0),
-        2 => put_record(rule, w, 2, part.first, 0),
+        0..=2 => put_part(rule, w, form, part.first),
         3 => {
             let test = write(
                 rows,
@@ -42,7 +39,7 @@ fn write(rows: &[u16; ROW_PLACES], n: u16, rule: &mut [u8], w: Written) -> Writt
                     bytes: w.bytes,
                 },
             );
-            put_record(rule, test, 3, last(test), 0)
+            put_part(rule, test, 3, last(test.entries))
         }
         4 => {
             let left = write(
@@ -55,10 +52,10 @@ fn write(rows: &[u16; ROW_PLACES], n: u16, rule: &mut [u8], w: Written) -> Writt
                 },
             );
             let right = write(rows, part.second, rule, left);
-            put_record(rule, right, 4, last(left), last(right))
+            put_part(rule, right, 4, last(left.entries))
         }
         _ => {
-            let end = put_record(rule, w, 1, 0, 0);
+            let end = put_part(rule, w, 1, 0);
             write_steps(rows, n, rule, end)
         }
     }
@@ -90,7 +87,7 @@ fn write_step(rows: &[u16; ROW_PLACES], n: u16, rule: &mut [u8], w: Written) -> 
     let part = part_at(rows, n);
     let form = part.form;
     match form {
-        6..=13 => put_plain(rule, w, form),
+        6..=13 => put_part(rule, w, form, last(w.entries)),
         _ => {
             let test = write(
                 rows,
@@ -101,7 +98,7 @@ fn write_step(rows: &[u16; ROW_PLACES], n: u16, rule: &mut [u8], w: Written) -> 
                     bytes: w.bytes,
                 },
             );
-            put_tested(rule, test, form, last(w))
+            put_part(rule, test, form, last(w.entries))
         }
     }
 }
