@@ -11,7 +11,7 @@ use Rattle.rules.specs.declared.rule.Entry.{Entry}
 use Rattle.grammar.specs.Rules.{recordOf, ruleBytes}
 use Rattle.text.proofs.PutLaws.{put-none, put-then, put-as}
 use Rattle.spell.specs.declared.own.Written.{Written}
-use Rattle.spell.specs.Promises.{Room, Spelt, Adds}
+use Rattle.spell.specs.Promises.{written, Room, Spelt, Adds}
 
 -- ---- records
 
@@ -56,9 +56,6 @@ module _ {e : Entry} {es : List Entry} {rule : List ℕ} {at : ℕ} where
     spelt-next q = record { bytes-are = put-as (sym (more-bytes e es)) (put-then (p .bytes-are) (q .bytes-are)) }
 
 -- ---- what is written
-
-abbrev written : (entries bytes : ℕ) → Written
-written entries bytes = record { entries = entries; bytes = bytes }
 
 -- No entry is put.
 pub adds-none : (rule : List ℕ) (w : Written) → Adds [] rule w rule w

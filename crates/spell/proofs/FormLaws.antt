@@ -115,9 +115,34 @@ pub own-sized : (argument n form : ℕ) → 1 ≤ form → form ≤ 17 → Sized
 unfolding ownEntries starEntries downEntries besideEntries formEntries formBytes ruleBytes recordOf bodyOf twoBytes rowOf
 own-sized argument n form l m = each-at (Sized argument n) 1 17 all form l (omega arith) where
   all : Each (Sized argument n) 1 17
-  all =
-      ((refl, refl), ((refl, refl), ((refl, refl), ((refl, refl), ((refl, refl), ((refl, refl), ((refl, refl), ((refl, refl), ((refl, refl),
-      ((refl, refl), ((refl, refl), ((refl, refl), ((refl, refl), ((refl, refl), ((refl, refl), ((refl, refl), ((refl, refl), tt)))))))))))))))))
+  all = (
+    (refl, refl),
+    (
+      (refl, refl),
+      (
+        (refl, refl),
+        (
+          (refl, refl),
+          (
+            (refl, refl),
+            (
+              (refl, refl),
+              (
+                (refl, refl),
+                (
+                  (refl, refl),
+                  (
+                    (refl, refl),
+                    ((refl, refl), ((refl, refl), ((refl, refl), ((refl, refl), ((refl, refl), ((refl, refl), ((refl, refl), ((refl, refl), tt)))))))),
+                  ),
+                ),
+              ),
+            ),
+          ),
+        ),
+      ),
+    ),
+  )
 
 -- The own entry of a form up to 9 is of that kind, and its record is that of the argument and the last entry, of which it has as many as its kind.
 abbrev OneRecord : (argument n form : ℕ) → Type 0

@@ -15,7 +15,7 @@ use Rattle.text.proofs.PutLaws.{put-then, put-as}
 use Rattle.terms.specs.Limits.{entriesMost}
 use Rattle.spell.specs.declared.own.Written.{Written}
 use Rattle.spell.specs.Forms.{ownEntries, formEntries, formBytes}
-use Rattle.spell.specs.Promises.{Room, Spelt, Adds, partFits, added, PartPut}
+use Rattle.spell.specs.Promises.{written, Room, Spelt, Adds, partFits, added, PartPut}
 use Rattle.spell.specs.Filled.{partEntries, Filled, Asks, Puts}
 use Rattle.spell.proofs.FormLaws.{entries-few, bytes-few, Sized, own-sized}
 use Rattle.spell.proofs.Adding.{adds-none}
@@ -57,7 +57,7 @@ module _ (form argument : ℕ) (rule : List ℕ) (w : Written) (e : partFits for
   -- and the own entries are what is added;
   pub fits-adds : {rule₁ : List ℕ} {own end entries bytes : ℕ} → own ≡ formEntries form
       → Spelt (ownEntries form argument (w .entries)) rule (w .bytes) end rule₁ → entries ≡ w .entries + own → bytes ≡ end
-      → PartPut form argument rule w rule₁ (record { entries = entries; bytes = bytes })
+      → PartPut form argument rule w rule₁ (written entries bytes)
   unfolding added
   fits-adds o p n b = rw e (record { count-is = omega (arith, n, o, known .0); spelt = rw b p })
 

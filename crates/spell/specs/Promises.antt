@@ -21,6 +21,10 @@ use Rattle.spell.specs.Forms.{ownEntries, formEntries, formBytes}
 abbrev pub numbers : (arguments a b : ℕ) → List ℕ
 numbers arguments a b = bodyOf arguments (entry 0 a b)
 
+-- So many entries are written, and so many bytes.
+abbrev pub written : (entries bytes : ℕ) → Written
+written entries bytes = record { entries = entries; bytes = bytes }
+
 -- There are bytes left for the records of these, from an offset on.
 pub record Room (es : List Entry) (rule : List ℕ) (at : ℕ) : Type 0 where
   pub enough : at + length (ruleBytes es) ≤ length rule

@@ -3,7 +3,7 @@ ghost use mathlib.Core.Path.{_≡_};
 ghost use Prim.Native.Nat.{_-_, _≤_};
 ghost use Rattle.terms.specs.Limits.{entriesMost};
 ghost use Rattle.spell.specs.Forms.{ownEntries};
-ghost use Rattle.spell.specs.Promises.{partFits, Room, Spelt, PartPut};
+ghost use Rattle.spell.specs.Promises.{written, partFits, Room, Spelt, PartPut};
 use crate::form::own_bytes;
 use crate::form::own_entries;
 use crate::put::last;
@@ -32,14 +32,14 @@ fn left(room: usize, used: usize) -> usize
 
 // The one test before a part is put: its form is one of the table's; from "not" on a form names entries,
 // so that one is written; and there are entries and bytes left for its own.
-fn fits(room: usize, w: Written, form: u16) -> bool
-    ensures { λ r. ⌜ r ≡ partFits form room w ⌝ }
+fn fits(room: usize, entries: u16, bytes: usize, form: u16) -> bool
+    ensures { λ r. ⌜ r ≡ partFits form room (written entries bytes) ⌝ }
 {
     (1 <= form)
         & (form <= FORMS)
-        & ((form <= 2) | (1 <= w.entries))
-        & (w.entries as usize + own_entries(form) as usize <= ENTRIES_MOST)
-        & (own_bytes(form) as usize <= left(room, w.bytes))
+        & ((form <= 2) | (1 <= entries))
+        & (entries as usize + own_entries(form) as usize <= ENTRIES_MOST)
+        & (own_bytes(form) as usize <= left(room, bytes))
 }
 
 // The own entries behind n, where they fit. The record of a form up to 9 is of that kind, and has as many
@@ -58,15 +58,18 @@ fn put_own(rule: &mut [u8], at: usize, n: u16, form: u16, argument: u16) -> usiz
 
 // Puts a part's own entries behind what is written, and answers what is written then. Where they do
 // not fit, nothing is put.
-pub fn put_part(rule: &mut [u8], w: Written, form: u16, argument: u16) -> Written
-    ensures { λ r. ⌜ PartPut form argument (now (rule .entry)) w (now (rule .exit)) r ⌝ }
+pub fn put_part(rule: &mut [u8], entries: u16, bytes: usize, form: u16, argument: u16) -> Written
+    ensures { λ r. ⌜ PartPut form argument (now (rule .entry)) (written entries bytes) (now (rule .exit)) r ⌝ }
 {
-    if fits(rule.len(), w, form) {
-        let end = put_own(rule, w.bytes, w.entries, form, argument);
+    if fits(rule.len(), entries, bytes, form) {
+        let end = put_own(rule, bytes, entries, form, argument);
         return Written {
-            entries: w.entries + own_entries(form),
+            entries: entries + own_entries(form),
             bytes: end,
         };
     }
-    w
+    Written {
+        entries: entries,
+        bytes: bytes,
+    }
 }

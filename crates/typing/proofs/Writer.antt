@@ -20,8 +20,8 @@ use Rattle.typing.proofs.Trees.{lastPlain, lastTested, plain-grows, tes
 use Rattle.typing.proofs.Below.{OfStep, Says, leaf-is, not-is, or-is, path-is, before-is, plain-is, tested-is, turned-held, none-before, steps-is, steps-row}
 
 -- What the writer has still to do: less where more entries are written, and where as many are, less for a row below.
-abbrev pub todo : (w : Written) (n : ℕ) → ℕ
-todo w n = 256 * (entriesMost - w .entries) + 3 * n
+abbrev pub todo : (entries n : ℕ) → ℕ
+todo entries n = 256 * (entriesMost - entries) + 3 * n
 
 -- ---- a test
 
@@ -180,7 +180,7 @@ pub record Along (rows : List ℕ) (n : ℕ) (rule : List ℕ) (w : Written) (ro
   pub some : 1 ≤ row
   pub begun : 1 ≤ w₁ .entries
   pub as-long : length rule₁ ≡ length rule
-  pub less-to-do : todo w₁ row ≤ todo w n
+  pub less-to-do : todo (w₁ .entries) row ≤ todo (w .entries) n
   pub asks : StepsAsk rows row rule₁ w₁
   pub whole : (rule₂ : List ℕ) (w₂ : Written) → StepsPut rows row rule₁ w₁ rule₂ w₂ → StepsPut rows n rule w rule₂ w₂
 
@@ -196,7 +196,7 @@ module _ {rows : List ℕ} {n row : ℕ} {rule rule₁ rule₂ : List ℕ} {w w�
 
   module _ (h : p .second ≡ 0 → ⊥) where
     -- Another was put, so there is less to do,
-    pub along-less : todo w₂ (p .second) < todo w₁ row
+    pub along-less : todo (w₂ .entries) (p .second) < todo (w₁ .entries) row
     along-less = let (i, j, k, x) = steps-second s (a .some) q (a .asks) in omega (arith, i, j, k, a .some)
 
     -- and one step more is put.

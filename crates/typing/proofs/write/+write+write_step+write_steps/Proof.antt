@@ -3,6 +3,7 @@
 use Prim.Native.Nat.{_+_, _≤_}
 use native.Mathlib.Omega.{arith}
 use mathlib.Core.Logic.{⊎-elim}
+use Rattle.spell.specs.Promises.{written}
 use borrow.Author.Needs.{needs}
 use Rattle.typing.proofs.Below.{OfStep, Says, step-row, test-row}
 use Rattle.typing.proofs.Writer.{todo, leaf-put, not-first, not-put, or-first, or-second, or-put, path-first, path-second, path-put, plain-put, tested-first, tested-put, steps-first, Along, along-none, along-last, along-less, along-more}
@@ -267,10 +268,10 @@ write-step-returns-2 t c =
 
 -- The steps of a path are put in a loop.
 abbrev write-steps-Inv-loop : write-steps-lts.InvT-loop
-write-steps-Inv-loop rows n rule₀ row₀ w₀ rule row w = Along rows n rule₀ w₀ row rule w
+write-steps-Inv-loop rows n rule₀ entries bytes row₀ so-far₀ rule row so-far = Along rows n rule₀ (written entries bytes) row rule so-far
 
 abbrev write-steps-μ-loop : write-steps-lts.MeasureT-loop
-write-steps-μ-loop rows n rule₀ row₀ w₀ rule row w = todo w row
+write-steps-μ-loop rows n rule₀ entries bytes row₀ so-far₀ rule row so-far = todo (so-far .entries) row
 
 write-steps-says : (t : ℕ) (c : write-steps-lts.After-part-at (write-steps-calls t) (write-steps-at t) write-steps.Post write-steps-Inv-loop write-steps-μ-loop)
     → (let x = c .before .before .before .before .before in Says (x .before .before .args .rows .now) (x .loop .row) (c .part-at .result))
@@ -279,7 +280,7 @@ write-steps-says t c = record { part-is = c .part-at .ensures }
 write-steps-loop-holds : (t : ℕ) → write-steps-lts.Need-loop-holds (write-steps-calls t) (write-steps-at t) write-steps.Post write-steps-Inv-loop write-steps-μ-loop
 write-steps-loop-holds t c =
     let s = c .before in
-    along-none (s .args .rows .now) (s .args .n) (s .args .rule .now) (s .args .w) (s .pre .1 .0) (s .pre .1 .1) (s .pre .1 .2)
+    along-none (s .args .rows .now) (s .args .n) (s .args .rule .now) (written (s .args .entries) (s .args .bytes)) (s .pre .1 .0) (s .pre .1 .1) (s .pre .1 .2)
 
 write-steps-write-step-requires : (t : ℕ) → write-steps-lts.Need-write-step-requires (write-steps-calls t) (write-steps-at t) write-steps.Post write-steps-Inv-loop write-steps-μ-loop
 write-steps-write-step-requires t c κs =
