@@ -28,7 +28,8 @@ use Rattle.rules.specs.Entries.{entriesBefore, entriesOf}
 use Rattle.rules.proofs.EntryLaws.{entries-length}
 use Rattle.numbers.specs.Lists.{listed}
 
-rule-append : (es fs : List Entry) → ruleBytes (es ++ fs) ≡ ruleBytes es ++ ruleBytes fs
+-- The bytes of two tables, one behind the other, are those of both.
+pub rule-append : (es fs : List Entry) → ruleBytes (es ++ fs) ≡ ruleBytes es ++ ruleBytes fs
 unfolding ruleBytes
 rule-append [] fs = refl
 rule-append (e ∷ es) fs = rw (rule-append es fs, append-assoc)

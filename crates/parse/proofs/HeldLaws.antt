@@ -13,7 +13,7 @@ use Rattle.paths.specs.Translation.{tableOf}
 use Rattle.paths.proofs.Count.{weightT, table-count}
 use Rattle.parse.specs.Rows.{noRows, noteRow, formOf, testEntries, entriesT, entriesP, entriesS, noteT, noteP, noteS, Row, HeldT, HeldP, HeldS}
 use Rattle.parse.proofs.TreeLaws.{step-own}
-use Rattle.parse.proofs.PartLaws.{entries-few}
+use Rattle.spell.proofs.FormLaws.{entries-few}
 use Rattle.terms.specs.Limits.{entriesMost}
 
 -- ---- rows that stay

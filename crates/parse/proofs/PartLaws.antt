@@ -4,81 +4,23 @@ use Prim.Native.Nat.{ℕ, zero, suc, _+_, _-_, _*_, _≤_, _<_}
 use native.Mathlib.Numerals.{add-one}
 use native.Mathlib.Omega.{arith}
 use mathlib.Core.Path.{_≡_, refl}
-use mathlib.Core.Bool.{Bool, true, false, cond}
+use mathlib.Core.Bool.{Bool, true, false}
 use mathlib.Core.List.{List}
-use borrow.Author.Tests.{le-leb, lt-leb, ne-eqb}
-use lib.Dec.{leb, eqb}
+use borrow.Author.Tests.{le-leb, lt-leb}
 use lib.ListN.{set}
 use Rattle.words.specs.declared.words.Word.{Word}
 use Rattle.words.specs.declared.words.Word.the-variants.{At, Missing}
 use Rattle.parse.specs.declared.tree.Parsed.{Parsed}
 use Rattle.parse.specs.declared.tree.Parsed.the-variants.{Done, Bad}
+use Rattle.spell.specs.Forms.{formEntries, formBytes}
 use Rattle.words.specs.Begins.{leafTree}
 use Rattle.words.proofs.Reading.{WordAt}
-use Rattle.parse.specs.Rows.{noteRow, formEntries, formBytes, noteT}
+use Rattle.parse.specs.Rows.{noteRow, noteT}
 use Rattle.parse.specs.Promises.{leafBytes, Small, Shut, Closing, Excepted, EitherOf, StepOf}
 use Rattle.terms.specs.Limits.{entriesMost}
 use Rattle.paths.specs.Answer.{textMost}
 
--- ---- forms and rows
-
-module _ (form : ℕ) where
-  pub entries-one : form ≤ 9 → 1 ≡ formEntries form
-  unfolding formEntries
-  entries-one l = rw (le-leb form 9 l)
-
-  pub entries-four : form ≡ 14 → 4 ≡ formEntries form
-  unfolding formEntries
-  entries-four e = rw e
-
-  pub entries-two : 9 < form → (form ≡ 14 → ⊥) → 2 ≡ formEntries form
-  unfolding formEntries
-  entries-two l h = rw (lt-leb form 9 l, ne-eqb form 14 h)
-
-  -- A form has one to four entries of its own.
-  pub entries-few : (1 ≤ formEntries form) × (formEntries form ≤ 4)
-  unfolding formEntries
-  entries-few = go (leb form 9) (eqb form 14) where
-    go : (p q : Bool) → (1 ≤ cond p 1 (cond q 4 2)) × (cond p 1 (cond q 4 2) ≤ 4)
-    go true q = (omega arith, omega arith)
-    go false true = (omega arith, omega arith)
-    go false false = (omega arith, omega arith)
-
-  pub bytes-eight : form ≤ 5 → 8 ≡ formBytes form
-  unfolding formBytes
-  bytes-eight l = rw (le-leb form 5 l)
-
-  pub bytes-six : 5 < form → form ≤ 9 → 6 ≡ formBytes form
-  unfolding formBytes
-  bytes-six l m = rw (lt-leb form 5 l, le-leb form 9 m)
-
-  pub bytes-twelve : 9 < form → form ≤ 13 → 12 ≡ formBytes form
-  unfolding formBytes
-  bytes-twelve l m = let few : 5 < form = omega arith in rw (lt-leb form 5 few, lt-leb form 9 l, le-leb form 13 m)
-
-  pub bytes-thirty : form ≡ 14 → 30 ≡ formBytes form
-  unfolding formBytes
-  bytes-thirty e = rw e
-
-  pub bytes-fourteen : 13 < form → (form ≡ 14 → ⊥) → 14 ≡ formBytes form
-  unfolding formBytes
-  bytes-fourteen l h =
-      let few : 5 < form = omega arith in
-      let more : 9 < form = omega arith in rw (lt-leb form 5 few, lt-leb form 9 more, lt-leb form 13 l, ne-eqb form 14 h)
-
-  -- Their records have at most 8 bytes each.
-  pub bytes-few : formBytes form ≤ 8 * formEntries form
-  unfolding formBytes formEntries
-  bytes-few = go (leb form 5) (leb form 9) (leb form 13) (eqb form 14) where
-    go : (p q r e : Bool) → cond p 8 (cond q 6 (cond r 12 (cond e 30 14))) ≤ 8 * cond q 1 (cond e 4 2)
-    go true true r e = omega arith
-    go true false r true = omega arith
-    go true false r false = omega arith
-    go false true r e = omega arith
-    go false false true true = omega arith
-    go false false true false = omega arith
-    go false false false true = omega arith
-    go false false false false = omega arith
+-- ---- rows
 
 module _ (rows : List ℕ) (n form a b : ℕ) where
   pub row-filled : n ≤ entriesMost → set (set (set rows (3 * n - 3) form) (3 * n - 3 + 1) a) (3 * n - 3 + 2) b ≡ noteRow rows n form a b

@@ -22,13 +22,14 @@ use Rattle.words.specs.declared.begins.Begin.the-variants as B
 use Rattle.words.specs.declared.begins.Start.the-variants as S
 use Rattle.parse.specs.declared.tree.Parsed.{Parsed}
 use Rattle.parse.specs.declared.tree.Parsed.the-variants.{Done, Bad}
-use Rattle.parse.specs.Rows.{noteRow, formOf, formEntries, formBytes, testEntries, testBytes, stepRow, noteT, noteP, noteS, entriesT, entriesS}
+use Rattle.spell.specs.Forms.{formEntries, formBytes}
+use Rattle.spell.proofs.FormLaws.{entries-few, bytes-few}
+use Rattle.parse.specs.Rows.{noteRow, formOf, testEntries, testBytes, stepRow, noteT, noteP, noteS, entriesT, entriesS}
 use Rattle.parse.specs.Promises.{leafBytes, Small, Ends, Shut, Closing, Excepted, EitherOf, StepOf, TestParsed, PathParsed, StepParsed, Went}
 use Rattle.words.specs.Words.{headOf}
 use Rattle.words.specs.Begins.{leafTree}
 use Rattle.words.proofs.Reading.{OrAt, LeafAt, BeginsAt, StartAt, StepReads, plainStep, plainForm}
 use Rattle.words.proofs.WordLaws.{front}
-use Rattle.parse.proofs.PartLaws.{entries-few, bytes-few}
 use Rattle.paths.specs.Answer.{textMost}
 
 -- ---- what a caller needs of a part: its counts are small, it ends within the bytes

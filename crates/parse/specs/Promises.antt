@@ -22,7 +22,8 @@ use Rattle.parse.specs.declared.tree.Parsed.{Parsed}
 use Rattle.parse.specs.declared.tree.Parsed.the-variants.{Done, Bad}
 use Rattle.parse.specs.declared.tree.Outcome.{Outcome}
 use Rattle.parse.specs.declared.tree.Outcome.the-variants as O
-use Rattle.parse.specs.Rows.{noRows, noteRow, formEntries, formBytes, noteT, noteP, noteS}
+use Rattle.spell.specs.Forms.{formEntries, formBytes}
+use Rattle.parse.specs.Rows.{noRows, noteRow, noteT, noteP, noteS}
 
 -- ---- trees
 

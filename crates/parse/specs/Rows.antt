@@ -19,7 +19,7 @@ use Prim.Native.Nat.{ℕ, _+_, _-_, _*_, _≤_, _<_}
 use mathlib.Core.Path.{_≡_}
 use mathlib.Core.Bool.{cond}
 use mathlib.Core.List.{List, [], _∷_}
-use lib.Dec.{leb, eqb}
+use lib.Dec.{leb}
 use lib.ListN.{getD, replicate}
 use lib.Seq.{sets}
 use Rattle.paths.specs.Syntax.{Test, everywhere, labelled, except, either, begins, Path, only, _then_, Step, along, along*, passing, while}
@@ -42,12 +42,6 @@ formOf (along* x) = untilKind x
 formOf (passing t) = 5
 formOf (while x t) = 8 + neighbourKind x
 
--- How many entries a step of a form has besides those of its test, and how many bytes their records have.
-unfoldable pub formEntries : ℕ → ℕ
-formEntries form = cond (leb form 9) 1 (cond (eqb form 14) 4 2)
-
-unfoldable pub formBytes : ℕ → ℕ
-formBytes form = cond (leb form 5) 8 (cond (leb form 9) 6 (cond (leb form 13) 12 (cond (eqb form 14) 30 14)))
 
 -- How many entries a test, a path, a step or the test of a step has.
 abbrev pub entriesT : Test → ℕ

@@ -8,9 +8,11 @@ ghost use lib.ListN.{length, drop};
 ghost use Rattle.parse.specs.declared.tree.Parsed.the-variants.{Done};
 ghost use Rattle.words.specs.Words.{headOf};
 ghost use Rattle.words.specs.Begins.{leafTree};
-ghost use Rattle.parse.specs.Rows.{noteRow, formEntries, formBytes, noteT};
+ghost use Rattle.parse.specs.Rows.{noteRow, noteT};
 ghost use Rattle.parse.specs.Promises.{leafBytes, Small, Ends, Shut, Closing, Excepted, EitherOf, StepOf, TestParsed, PathParsed, StepParsed, Read, TreeRead};
 ghost use Rattle.paths.specs.Answer.{textMost};
+use spell::form::own_bytes;
+use spell::form::own_entries;
 use words::begins::Begin;
 use words::begins::Start;
 use words::begins::begins_at;
@@ -43,30 +45,6 @@ pub enum Outcome {
 }
 
 // ---- rows
-
-// How many entries a form has besides those of its parts.
-fn own_entries(form: u16) -> u16
-    ensures { λ r. ⌜ r ≡ formEntries form ⌝ }
-{
-    match form {
-        0..=9 => 1,
-        14 => 4,
-        _ => 2,
-    }
-}
-
-// How many bytes their records have.
-fn own_bytes(form: u16) -> u16
-    ensures { λ r. ⌜ r ≡ formBytes form ⌝ }
-{
-    match form {
-        0..=5 => 8,
-        6..=9 => 6,
-        10..=13 => 12,
-        14 => 30,
-        _ => 14,
-    }
-}
 
 // Fills row n, where there is such a row: a text with more entries is refused, and its rows are not read.
 fn note_row(rows: &mut [u16; ROW_PLACES], n: u16, form: u16, a: u16, b: u16)

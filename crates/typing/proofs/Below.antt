@@ -8,10 +8,11 @@ use Rattle.terms.specs.declared.kind.Axis.{Axis}
 use Rattle.terms.specs.declared.kind.Axis.the-variants.{Child as child, Parent as parent, Next as right, Previous as left}
 use Rattle.paths.specs.Syntax.{Test, everywhere, labelled, except, either, begins, Path, only, _then_, Step, along, along*, passing, while}
 use Rattle.paths.specs.Translation.{neighbourKind, untilKind, putT, putP, putS}
+use Rattle.spell.specs.Filled.{partEntries}
 use Rattle.parse.specs.Rows.{formOf, Row, HeldT, HeldP, HeldS}
 use Rattle.typing.specs.declared.part.Part.{Part}
-use Rattle.typing.specs.Writing.{oneMore, plainEntries, partAt, putSteps, HeldSteps}
-use Rattle.typing.proofs.Trees.{lastNot, lastOr, lastTested, along-is, along*-is, passing-puts, while-puts, turned}
+use Rattle.typing.specs.Writing.{partAt, putSteps, HeldSteps}
+use Rattle.typing.proofs.Trees.{lastPlain, lastTested, true-puts, label-puts, not-puts, or-puts, path-puts, along-puts, along*-puts, passing-puts, while-puts, turned}
 use Rattle.terms.specs.Limits.{entriesMost}
 
 -- The forms of AXIS are 6 to 9,
@@ -32,7 +33,7 @@ star-form left = (omega arith, omega arith)
 
 -- It is the form of a step.
 abbrev pub OfStep : (form : ℕ) → Type 0
-OfStep form = (form ≡ 1 → ⊥) × (form ≡ 2 → ⊥) × (form ≡ 3 → ⊥) × (form ≡ 4 → ⊥)
+OfStep form = (2 < form) × (form ≡ 3 → ⊥) × (form ≡ 4 → ⊥)
 
 module _ (rows : List ℕ) where
   -- ---- the row
@@ -75,54 +76,45 @@ module _ {rows : List ℕ} {n : ℕ} {p : Part} (s : Says rows n p) where
   path-form : (q : Path) → HeldP rows q n 0 → 5 ≤ p .form
   path-form q x = rw (s .part-is) (path-row rows q n 0 x .1)
 
-  -- In a row of form 1 stands true,
-  pub true-is : (t : Test) → HeldT rows t n → p .form ≡ 1 → (es : List Entry) → putT t es ≡ oneMore 1 0 0 es
-  unfolding HeldT putT
-  true-is everywhere r h es = refl
-  true-is (labelled l) r h es = absurd (omega (arith, h, read r .0))
-  true-is (except t) (a, l, r, x) h es = absurd (omega (arith, h, read r .0))
-  true-is (either t u) (a, b, l, m, r, x, y) h es = absurd (omega (arith, h, read r .0))
-  true-is (begins q) x h es = absurd (omega (arith, h, path-form q x))
-
-  -- of form 2 a label, which is its first number,
-  pub label-is : (t : Test) → HeldT rows t n → p .form ≡ 2 → (es : List Entry) → putT t es ≡ oneMore 2 (p .first) 0 es
-  unfolding HeldT putT
-  label-is everywhere r h es = absurd (omega (arith, h, read r .0))
-  label-is (labelled l) r h es = rw (read r .1)
-  label-is (except t) (a, l, r, x) h es = absurd (omega (arith, h, read r .0))
-  label-is (either t u) (a, b, l, m, r, x, y) h es = absurd (omega (arith, h, read r .0))
-  label-is (begins q) x h es = absurd (omega (arith, h, path-form q x))
+  -- In a row of form 1 or 2 stands true or a label, which is its first number,
+  pub leaf-is : (t : Test) → HeldT rows t n → p .form ≤ 2 → (1 ≤ p .form) × ((es : List Entry) → putT t es ≡ partEntries (p .form) (p .first) es)
+  unfolding HeldT
+  leaf-is everywhere r h = rw (read r .0, read r .1) (omega arith, true-puts)
+  leaf-is (labelled l) r h = rw (read r .0, read r .1) (omega arith, label-puts l)
+  leaf-is (except t) (a, l, r, x) h = absurd (omega (arith, h, read r .0))
+  leaf-is (either t u) (a, b, l, m, r, x, y) h = absurd (omega (arith, h, read r .0))
+  leaf-is (begins q) x h = absurd (omega (arith, h, path-form q x))
 
   -- of form 3 "not" of the test in the row of its first number,
   pub not-is : (t : Test) → HeldT rows t n → p .form ≡ 3
-      → (u : Test) × (p .first < n) × HeldT rows u (p .first) × ((es : List Entry) → putT t es ≡ lastNot (putT u es))
-  unfolding HeldT putT
+      → (u : Test) × (p .first < n) × HeldT rows u (p .first) × ((es : List Entry) → putT t es ≡ lastPlain 3 (putT u es))
+  unfolding HeldT
   not-is everywhere r h = absurd (omega (arith, h, read r .0))
   not-is (labelled l) r h = absurd (omega (arith, h, read r .0))
-  not-is (except t) (a, l, r, x) h = rw (read r .1) (t, l, x, λ es. refl)
+  not-is (except t) (a, l, r, x) h = rw (read r .1) (t, l, x, not-puts t)
   not-is (either t u) (a, b, l, m, r, x, y) h = absurd (omega (arith, h, read r .0))
   not-is (begins q) x h = absurd (omega (arith, h, path-form q x))
 
   -- of form 4 "or" of the tests in the rows of both,
   pub or-is : (t : Test) → HeldT rows t n → p .form ≡ 4
       → (u v : Test) × (p .first < n) × (p .second < n) × HeldT rows u (p .first) × HeldT rows v (p .second)
-      × ((es : List Entry) → putT t es ≡ lastOr (putT v) (putT u es))
-  unfolding HeldT putT
+      × ((es : List Entry) → putT t es ≡ lastTested 4 (putT v) (putT u es))
+  unfolding HeldT
   or-is everywhere r h = absurd (omega (arith, h, read r .0))
   or-is (labelled l) r h = absurd (omega (arith, h, read r .0))
   or-is (except t) (a, l, r, x) h = absurd (omega (arith, h, read r .0))
-  or-is (either t u) (a, b, l, m, r, x, y) h = rw (read r .1, read r .2) (t, u, l, m, x, y, λ es. refl)
+  or-is (either t u) (a, b, l, m, r, x, y) h = rw (read r .1, read r .2) (t, u, l, m, x, y, or-puts t u)
   or-is (begins q) x h = absurd (omega (arith, h, path-form q x))
 
   -- and of any other form a path.
   pub path-is : (t : Test) → HeldT rows t n → OfStep (p .form)
-      → (q : Path) × HeldP rows q n 0 × ((es : List Entry) → putT t es ≡ putP q (oneMore 1 0 0 es))
-  unfolding HeldT putT
-  path-is everywhere r h = absurd (h .0 (read r .0))
-  path-is (labelled l) r h = absurd (h .1 (read r .0))
-  path-is (except t) (a, l, r, x) h = absurd (h .2 (read r .0))
-  path-is (either t u) (a, b, l, m, r, x, y) h = absurd (h .3 (read r .0))
-  path-is (begins q) x h = (q, x, λ es. refl)
+      → (q : Path) × HeldP rows q n 0 × ((es : List Entry) → putT t es ≡ putP q (partEntries 1 0 es))
+  unfolding HeldT
+  path-is everywhere r h = absurd (omega (arith, h .0, read r .0))
+  path-is (labelled l) r h = absurd (omega (arith, h .0, read r .0))
+  path-is (except t) (a, l, r, x) h = absurd (h .1 (read r .0))
+  path-is (either t u) (a, b, l, m, r, x, y) h = absurd (h .2 (read r .0))
+  path-is (begins q) x h = (q, x, path-puts q)
 
   -- ---- the step in a row that was read
 
@@ -131,22 +123,22 @@ module _ {rows : List ℕ} {n : ℕ} {p : Part} (s : Says rows n p) where
   before-is st b x = rw (s .part-is) (step-row rows st n b x .2)
 
   -- Where the form is 6 to 13, it is AXIS or AXIS*,
-  pub plain-is : (st : Step) (b : ℕ) → HeldS rows st n b → 6 ≤ p .form → p .form < 14 → (es : List Entry) → putS st es ≡ plainEntries (p .form) es
+  pub plain-is : (st : Step) (b : ℕ) → HeldS rows st n b → 6 ≤ p .form → p .form < 14 → (es : List Entry) → putS st es ≡ lastPlain (p .form) es
   unfolding HeldT formOf
-  plain-is (along x) b (a, r) l m es = rw (read r .0) (along-is x es)
-  plain-is (along* x) b (a, r) l m es = rw (read r .0) (along*-is x es)
+  plain-is (along x) b (a, r) l m es = rw (read r .0) (along-puts x es)
+  plain-is (along* x) b (a, r) l m es = rw (read r .0) (along*-puts x es)
   plain-is (passing t) b (a, k, r, x) l m es = absurd (omega (arith, l, read r .0))
   plain-is (while y t) b (a, k, r, x) l m es = absurd (omega (arith, m, read r .0, axis-form y .0))
 
   -- and else a step with a test, which stands in the row of the first number.
   pub tested-is : (st : Step) (b : ℕ) → HeldS rows st n b → (6 ≤ p .form → 14 ≤ p .form)
-      → (u : Test) × (p .first < n) × HeldT rows u (p .first) × ((p .form ≡ 5 → ⊥) → 14 ≤ p .form)
+      → (u : Test) × (p .first < n) × HeldT rows u (p .first) × (5 ≤ p .form) × (p .form ≤ 17)
       × ((es : List Entry) → putS st es ≡ lastTested (p .form) (putT u) es)
   unfolding HeldT formOf
   tested-is (along x) b (a, r) k = let f = axis-form x in absurd (omega (arith, read r .0, f .0, f .1, k (omega (arith, read r .0, f .0))))
   tested-is (along* x) b (a, r) k = let f = star-form x in absurd (omega (arith, read r .0, f .0, f .1, k (omega (arith, read r .0, f .0))))
-  tested-is (passing t) b (a, l, r, x) k = rw (read r .1, read r .0) (t, l, x, λ h. absurd (h refl), passing-puts t)
-  tested-is (while y t) b (a, l, r, x) k = rw (read r .1, read r .0) (t, l, x, λ h. omega (arith, axis-form y .0), while-puts y t)
+  tested-is (passing t) b (a, l, r, x) k = rw (read r .1, read r .0) (t, l, x, omega arith, omega arith, passing-puts t)
+  tested-is (while y t) b (a, l, r, x) k = let f = axis-form y in rw (read r .1, read r .0) (t, l, x, omega (arith, f .0), omega (arith, f .1), while-puts y t)
 
 -- ---- the steps of a path, from last to first
 

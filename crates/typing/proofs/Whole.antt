@@ -8,8 +8,8 @@ use Rattle.grammar.specs.Rules.{ruleBytes}
 use Rattle.text.proofs.PutLaws.{put-none}
 use Rattle.paths.specs.Syntax.{Test}
 use Rattle.paths.specs.Translation.{putT, tableOf}
-use Rattle.typing.specs.declared.put.Written.{Written}
-use Rattle.typing.specs.Writing.{Filled, Asks, Puts}
+use Rattle.spell.specs.declared.own.Written.{Written}
+use Rattle.spell.specs.Filled.{Filled, Asks, Puts}
 use Rattle.terms.specs.Limits.{entriesMost}
 use Rattle.numbers.specs.Lists.{over}
 

@@ -2,6 +2,4 @@
 // rule's records, put one behind the other into a lent buffer. The text itself is not read again.
 pub mod export;
 mod part;
-mod put;
-mod step;
 mod write;

@@ -1,5 +1,6 @@
 use native.Mathlib.Omega.{arith}
-use Rattle.parse.proofs.PartLaws.{entries-few, bytes-few, small-of, step-bad, step-done}
+use Rattle.spell.proofs.FormLaws.{entries-few, bytes-few}
+use Rattle.parse.proofs.PartLaws.{small-of, step-bad, step-done}
 use borrow.Author.Needs.{needs}
 use Rattle.parse.proofs.tree.step_of.Statement.{statement}
 use Rattle.parse.proofs.tree.step_of.Tie as tie

@@ -3,9 +3,10 @@
 use Prim.Native.Nat.{_+_, _≤_}
 use native.Mathlib.Omega.{arith}
 use mathlib.Core.Logic.{⊎-elim}
+use Rattle.spell.specs.Promises.{written}
 use borrow.Author.Needs.{needs}
 use Rattle.typing.proofs.Below.{OfStep, Says, step-row, test-row}
-use Rattle.typing.proofs.Writer.{todo, true-asks, true-puts, label-asks, label-puts, not-first, not-more, not-second, not-puts, or-first, or-second, or-more, or-third, or-puts, path-first, path-second, path-puts, plain-asks, plain-puts, tested-first, tested-second, tested-puts, steps-first, Along, along-none, along-last, along-less, along-more}
+use Rattle.typing.proofs.Writer.{todo, leaf-put, not-first, not-put, or-first, or-second, or-put, path-first, path-second, path-put, plain-put, tested-first, tested-put, steps-first, Along, along-none, along-last, along-less, along-more}
 use Prim.Native.Nat.{ℕ, _<_}
 use borrow.Fn.Kinds.{In}
 use borrow.Fn.PlainCycle.{Measures, is, falls, and}
@@ -19,10 +20,8 @@ use Rattle.typing.proofs.write.write_steps.Reads as write-steps
 use Rattle.typing.proofs.write.write_steps.Kinds as write-steps-kinds
 use Rattle.typing.proofs.write.+write+write_step+write_steps.Lts-write_steps as write-steps-lts
 use Rattle.typing.proofs.part.part_at.Reads as part-at-reads
-use Rattle.typing.proofs.put.last.Reads as last-reads
-use Rattle.typing.proofs.put.put_record.Reads as put-record-reads
-use Rattle.typing.proofs.step.put_plain.Reads as put-plain-reads
-use Rattle.typing.proofs.step.put_tested.Reads as put-tested-reads
+use Rattle.spell.proofs.own.put_part.Reads as put-part-reads
+use Rattle.spell.proofs.put.last.Reads as last-reads
 use Rattle.typing.proofs.write.+write+write_step+write_steps.{statement}
 use Rattle.typing.proofs.write.+write+write_step+write_steps.Tie.{close}
 
@@ -63,12 +62,12 @@ abbrev write-calls : ℕ → write-lts.Claims
 write-calls t = (
   part-at-reads.Asked,
   part-at-reads.Learnt,
-  put-record-reads.Asked,
-  put-record-reads.Learnt,
   write-below t,
   write.Post,
   last-reads.Asked,
   last-reads.Learnt,
+  put-part-reads.Asked,
+  put-part-reads.Learnt,
   write-steps-below t,
   write-steps.Post,
 )
@@ -77,14 +76,12 @@ abbrev write-step-calls : ℕ → write-step-lts.Claims
 write-step-calls t = (
   part-at-reads.Asked,
   part-at-reads.Learnt,
-  put-plain-reads.Asked,
-  put-plain-reads.Learnt,
-  write-below t,
-  write.Post,
   last-reads.Asked,
   last-reads.Learnt,
-  put-tested-reads.Asked,
-  put-tested-reads.Learnt,
+  put-part-reads.Asked,
+  put-part-reads.Learnt,
+  write-below t,
+  write.Post,
 )
 
 abbrev write-steps-calls : ℕ → write-steps-lts.Claims
@@ -100,8 +97,8 @@ write-step-says : (t : ℕ) (c : write-step-lts.After-part-at (write-step-calls 
 write-step-says t c = record { part-is = c .part-at .ensures }
 
 -- and is a step's.
-of-step : (t : ℕ) (c : write-lts.At-match-rest (write-calls t) (write-at t) write.Post) → OfStep (c .before .part-at .result .form)
-of-step t c = let m = c .match .rest in (m .0 .0 .0 .1, m .0 .0 .1, m .0 .1, m .1)
+of-step : (t : ℕ) (c : write-lts.Else1 (write-calls t) (write-at t) write.Post) → OfStep (c .before .before .part-at .result .form)
+of-step t c = let m = c .before .match .rest in (c .if1 .left, m .0 .1, m .1)
 
 -- The step has a test.
 with-test : (t : ℕ) (c : write-step-lts.Joined1 (write-step-calls t) (write-step-at t) write-step.Post)
@@ -114,46 +111,26 @@ write-part-at-requires t c κs =
     let a = s .pre .1 in
     (test-row (s .args .rows .now) (a .1 .0) (s .args .n) (a .1 .1), a .0)
 
-write-put-record-requires : (t : ℕ) → write-lts.Need-put-record-requires (write-calls t) (write-at t) write.Post
-write-put-record-requires t c κs =
-    let x1 = c .before in
-    let x2 = x1 .before in
-    true-asks (write-says t x2) (x2 .before .before .pre .1 .1) (x1 .match .keys1)
-
-write-put-record-requires-2 : (t : ℕ) → write-lts.Need-put-record-requires-2 (write-calls t) (write-at t) write.Post
-write-put-record-requires-2 t c κs =
-    let x1 = c .before in
-    let x2 = x1 .before in
-    label-asks (write-says t x2) (x2 .before .before .pre .1 .1) (x1 .match .keys2)
-
 write-write-requires : (t : ℕ) → write-lts.Need-write-requires (write-calls t) (write-at t) write.Post
 write-write-requires t c κs =
     let x1 = c .before in
     let x2 = x1 .before in
     let s = x2 .before .before in
-    let a = not-first (write-says t x2) (x1 .match .keys3) (s .pre .1 .1) in
+    let a = not-first (write-says t x2) (x1 .match .keys1) (s .pre .1 .1) in
     (omega (arith, a .0, s .pre .0), (omega (arith, a .0, s .pre .1 .0), a .1))
 
 write-last-requires : (t : ℕ) → write-lts.Need-last-requires (write-calls t) (write-at t) write.Post
-write-last-requires t c κs =
-    let x1 = c .before .before .before in
-    let x2 = x1 .before .before in
-    let x3 = x2 .before in
-    not-more (write-says t x3) (x2 .match .keys3) (x1 .write .ensures) (x3 .before .before .pre .1 .1)
+write-last-requires t c κs = search needs
 
-write-put-record-requires-3 : (t : ℕ) → write-lts.Need-put-record-requires-3 (write-calls t) (write-at t) write.Post
-write-put-record-requires-3 t c κs =
-    let x1 = c .before .before .before .before in
-    let x2 = x1 .before .before in
-    let x3 = x2 .before in
-    not-second (write-says t x3) (x2 .match .keys3) (x1 .write .ensures) (c .last .ensures) (x3 .before .before .pre .1 .1)
+write-put-part-requires : (t : ℕ) → write-lts.Need-put-part-requires (write-calls t) (write-at t) write.Post
+write-put-part-requires t c κs = search needs
 
 write-write-requires-2 : (t : ℕ) → write-lts.Need-write-requires-2 (write-calls t) (write-at t) write.Post
 write-write-requires-2 t c κs =
     let x1 = c .before in
     let x2 = x1 .before in
     let s = x2 .before .before in
-    let a = or-first (write-says t x2) (x1 .match .keys4) (s .pre .1 .1) in
+    let a = or-first (write-says t x2) (x1 .match .keys2) (s .pre .1 .1) in
     (omega (arith, a .0, s .pre .0), (omega (arith, a .0, s .pre .1 .0), a .1))
 
 write-write-requires-3 : (t : ℕ) → write-lts.Need-write-requires-3 (write-calls t) (write-at t) write.Post
@@ -162,49 +139,29 @@ write-write-requires-3 t c κs =
     let x2 = x1 .before .before in
     let x3 = x2 .before in
     let s = x3 .before .before in
-    let a = or-second (write-says t x3) (x2 .match .keys4) (x1 .write2 .ensures) (s .pre .1 .1) in
+    let a = or-second (write-says t x3) (x2 .match .keys2) (x1 .write2 .ensures) (s .pre .1 .1) in
     (omega (arith, a .0, a .1, s .pre .0), (omega (arith, a .0, s .pre .1 .0), a .2))
 
 write-last-requires-2 : (t : ℕ) → write-lts.Need-last-requires-2 (write-calls t) (write-at t) write.Post
-write-last-requires-2 t c κs =
-    let x1 = c .before .before .before in
-    let x2 = x1 .before .before .before .before in
-    let x3 = x2 .before .before in
-    let x4 = x3 .before in
-    or-more (write-says t x4) (x3 .match .keys4) (x2 .write2 .ensures) (x1 .write3 .ensures) (x4 .before .before .pre .1 .1) .0
+write-last-requires-2 t c κs = search needs
 
-write-last-requires-3 : (t : ℕ) → write-lts.Need-last-requires-3 (write-calls t) (write-at t) write.Post
-write-last-requires-3 t c κs =
-    let x1 = c .before .before .before .before in
-    let x2 = x1 .before .before .before .before in
-    let x3 = x2 .before .before in
-    let x4 = x3 .before in
-    or-more (write-says t x4) (x3 .match .keys4) (x2 .write2 .ensures) (x1 .write3 .ensures) (x4 .before .before .pre .1 .1) .1
+write-put-part-requires-2 : (t : ℕ) → write-lts.Need-put-part-requires-2 (write-calls t) (write-at t) write.Post
+write-put-part-requires-2 t c κs = search needs
 
-write-put-record-requires-4 : (t : ℕ) → write-lts.Need-put-record-requires-4 (write-calls t) (write-at t) write.Post
-write-put-record-requires-4 t c κs =
-    let x1 = c .before in
-    let x2 = x1 .before .before .before .before in
-    let x3 = x2 .before .before .before .before in
-    let x4 = x3 .before .before in
-    let x5 = x4 .before in
-    let x = write-says t x5 in
-    or-third x (x4 .match .keys4) (x3 .write2 .ensures) (x2 .write3 .ensures) (x1 .last2 .ensures) (c .last3 .ensures) (x5 .before .before .pre .1 .1)
+write-put-part-requires-3 : (t : ℕ) → write-lts.Need-put-part-requires-3 (write-calls t) (write-at t) write.Post
+write-put-part-requires-3 t c κs = search needs
 
-write-put-record-requires-5 : (t : ℕ) → write-lts.Need-put-record-requires-5 (write-calls t) (write-at t) write.Post
-write-put-record-requires-5 t c κs =
-    let x1 = c .before in
-    let x2 = x1 .before in
-    path-first (write-says t x2) (of-step t x1) (x2 .before .before .pre .1 .1)
+write-put-part-requires-4 : (t : ℕ) → write-lts.Need-put-part-requires-4 (write-calls t) (write-at t) write.Post
+write-put-part-requires-4 t c κs = search needs
 
 write-write-steps-requires : (t : ℕ) → write-lts.Need-write-steps-requires (write-calls t) (write-at t) write.Post
 write-write-steps-requires t c κs =
     let x1 = c .before .before .before in
     let x2 = x1 .before .before in
-    let x3 = x2 .before in
+    let x3 = x2 .before .before in
     let s = x3 .before .before in
-    let q = x1 .put-record5 .ensures in
     let a = s .pre .1 in
+    let q = path-first (write-says t x3) (of-step t x2) (a .1) (x1 .put-part4 .ensures) in
     let l = test-row (s .args .rows .now) (a .1 .0) (s .args .n) (a .1 .1) in
     let b = path-second (write-says t x3) (of-step t x2) q (a .0) (a .1) in
     (omega (arith, q .more, s .pre .0), (l, omega (arith, q .more), b))
@@ -215,8 +172,11 @@ write-same-length t c = search needs
 write-returns : (t : ℕ) → write-lts.Need-returns (write-calls t) (write-at t) write.Post
 write-returns t c =
     let x1 = c .before .before in
-    let x2 = x1 .before .before in
-    true-puts (write-says t (x2 .before)) (x2 .match .keys1) (x1 .put-record .ensures)
+    let x2 = x1 .before in
+    let x3 = x2 .before .before .before .before in
+    let x4 = x3 .before .before in
+    let x5 = x4 .before in
+    not-put (write-says t x5) (x4 .match .keys1) (x3 .write .ensures) (x2 .last .ensures) (x5 .before .before .pre .1 .1) (x1 .put-part .ensures)
 
 write-same-length-2 : (t : ℕ) → write-lts.Need-same-length-2 (write-calls t) (write-at t) write.Post
 write-same-length-2 t c = search needs
@@ -224,8 +184,13 @@ write-same-length-2 t c = search needs
 write-returns-2 : (t : ℕ) → write-lts.Need-returns-2 (write-calls t) (write-at t) write.Post
 write-returns-2 t c =
     let x1 = c .before .before in
-    let x2 = x1 .before .before in
-    label-puts (write-says t (x2 .before)) (x2 .match .keys2) (x1 .put-record2 .ensures)
+    let x2 = x1 .before in
+    let x3 = x2 .before .before .before .before in
+    let x4 = x3 .before .before .before .before in
+    let x5 = x4 .before .before in
+    let x6 = x5 .before in
+    or-put (write-says t x6) (x5 .match .keys2) (x4 .write2 .ensures) (x3 .write3 .ensures) (x2 .last2 .ensures) (x6 .before .before .pre .1 .1)
+    (x1 .put-part2 .ensures)
 
 write-same-length-3 : (t : ℕ) → write-lts.Need-same-length-3 (write-calls t) (write-at t) write.Post
 write-same-length-3 t c = search needs
@@ -233,10 +198,9 @@ write-same-length-3 t c = search needs
 write-returns-3 : (t : ℕ) → write-lts.Need-returns-3 (write-calls t) (write-at t) write.Post
 write-returns-3 t c =
     let x1 = c .before .before in
-    let x2 = x1 .before in
-    let x3 = x2 .before .before .before .before in
-    let x4 = x3 .before .before in
-    not-puts (write-says t (x4 .before)) (x4 .match .keys3) (x3 .write .ensures) (x2 .last .ensures) (x1 .put-record3 .ensures)
+    let x2 = x1 .before .before in
+    let x3 = x2 .before .before in
+    leaf-put (write-says t x3) (x3 .before .before .pre .1 .1) (omega (arith, x2 .if1 .taken)) (x1 .put-part3 .ensures)
 
 write-same-length-4 : (t : ℕ) → write-lts.Need-same-length-4 (write-calls t) (write-at t) write.Post
 write-same-length-4 t c = search needs
@@ -244,24 +208,12 @@ write-same-length-4 t c = search needs
 write-returns-4 : (t : ℕ) → write-lts.Need-returns-4 (write-calls t) (write-at t) write.Post
 write-returns-4 t c =
     let x1 = c .before .before in
-    let x2 = x1 .before in
-    let x3 = x2 .before in
-    let x4 = x3 .before .before .before .before in
-    let x5 = x4 .before .before .before .before in
-    let x6 = x5 .before .before in
-    let x = write-says t (x6 .before) in
-    or-puts x (x6 .match .keys4) (x5 .write2 .ensures) (x4 .write3 .ensures) (x3 .last2 .ensures) (x2 .last3 .ensures) (x1 .put-record4 .ensures)
-
-write-same-length-5 : (t : ℕ) → write-lts.Need-same-length-5 (write-calls t) (write-at t) write.Post
-write-same-length-5 t c = search needs
-
-write-returns-5 : (t : ℕ) → write-lts.Need-returns-5 (write-calls t) (write-at t) write.Post
-write-returns-5 t c =
-    let x1 = c .before .before in
     let x2 = x1 .before .before .before .before in
     let x3 = x2 .before .before in
-    let x4 = x3 .before in
-    path-puts (write-says t x4) (of-step t x3) (x2 .put-record5 .ensures) (x4 .before .before .pre .1 .0) (x1 .write-steps .ensures)
+    let x4 = x3 .before .before in
+    let a = x4 .before .before .pre .1 in
+    let q = path-first (write-says t x4) (of-step t x3) (a .1) (x2 .put-part4 .ensures) in
+    path-put (write-says t x4) (of-step t x3) q (a .0) (x1 .write-steps .ensures)
 
 write-step-part-at-requires : (t : ℕ) → write-step-lts.Need-part-at-requires (write-step-calls t) (write-step-at t) write-step.Post
 write-step-part-at-requires t c κs =
@@ -269,13 +221,11 @@ write-step-part-at-requires t c κs =
     let a = s .pre .1 in
     (step-row (s .args .rows .now) (a .2 .0) (s .args .n) (a .2 .1) (a .2 .2) .0, a .0)
 
-write-step-put-plain-requires : (t : ℕ) → write-step-lts.Need-put-plain-requires (write-step-calls t) (write-step-at t) write-step.Post
-write-step-put-plain-requires t c κs =
-    let x1 = c .before in
-    let x2 = x1 .before in
-    let x3 = x2 .before in
-    let a = x3 .before .before .pre .1 in
-    (a .1, plain-asks (write-step-says t x3) (x2 .if1 .left) (x1 .if2 .taken) (a .2))
+write-step-last-requires : (t : ℕ) → write-step-lts.Need-last-requires (write-step-calls t) (write-step-at t) write-step.Post
+write-step-last-requires t c κs = search needs
+
+write-step-put-part-requires : (t : ℕ) → write-step-lts.Need-put-part-requires (write-step-calls t) (write-step-at t) write-step.Post
+write-step-put-part-requires t c κs = search needs
 
 write-step-write-requires : (t : ℕ) → write-step-lts.Need-write-requires (write-step-calls t) (write-step-at t) write-step.Post
 write-step-write-requires t c κs =
@@ -285,15 +235,11 @@ write-step-write-requires t c κs =
     let a = tested-first (write-step-says t x2) (with-test t x1) (s .pre .1 .2) in
     (omega (arith, a .0, s .pre .0), (omega (arith, a .0, s .pre .1 .0), a .1))
 
-write-step-last-requires : (t : ℕ) → write-step-lts.Need-last-requires (write-step-calls t) (write-step-at t) write-step.Post
-write-step-last-requires t c κs = c .before .before .before .before .before .before .before .before .pre .1 .1
+write-step-last-requires-2 : (t : ℕ) → write-step-lts.Need-last-requires-2 (write-step-calls t) (write-step-at t) write-step.Post
+write-step-last-requires-2 t c κs = search needs
 
-write-step-put-tested-requires : (t : ℕ) → write-step-lts.Need-put-tested-requires (write-step-calls t) (write-step-at t) write-step.Post
-write-step-put-tested-requires t c κs =
-    let x1 = c .before .before .before .before in
-    let x2 = x1 .before .before in
-    let x3 = x2 .before in
-    tested-second (write-step-says t x3) (with-test t x2) (x1 .write .ensures) (c .last .ensures) (x3 .before .before .pre .1 .2)
+write-step-put-part-requires-2 : (t : ℕ) → write-step-lts.Need-put-part-requires-2 (write-step-calls t) (write-step-at t) write-step.Post
+write-step-put-part-requires-2 t c κs = search needs
 
 write-step-same-length : (t : ℕ) → write-step-lts.Need-same-length (write-step-calls t) (write-step-at t) write-step.Post
 write-step-same-length t c = search needs
@@ -301,9 +247,12 @@ write-step-same-length t c = search needs
 write-step-returns : (t : ℕ) → write-step-lts.Need-returns (write-step-calls t) (write-step-at t) write-step.Post
 write-step-returns t c =
     let x1 = c .before .before in
-    let x2 = x1 .before .before in
-    let x3 = x2 .before in
-    plain-puts (write-step-says t (x3 .before)) (x3 .if1 .left) (x2 .if2 .taken) (x1 .put-plain .ensures)
+    let x2 = x1 .before in
+    let x3 = x2 .before .before in
+    let x4 = x3 .before in
+    let x5 = x4 .before in
+    let a = x5 .before .before .pre .1 in
+    plain-put (write-step-says t x5) (x4 .if1 .left) (x3 .if2 .taken) (a .1) (x2 .last .ensures) (a .2) (x1 .put-part .ensures)
 
 write-step-same-length-2 : (t : ℕ) → write-step-lts.Need-same-length-2 (write-step-calls t) (write-step-at t) write-step.Post
 write-step-same-length-2 t c = search needs
@@ -314,14 +263,15 @@ write-step-returns-2 t c =
     let x2 = x1 .before in
     let x3 = x2 .before .before .before .before in
     let x4 = x3 .before .before in
-    tested-puts (write-step-says t (x4 .before)) (with-test t x4) (x3 .write .ensures) (x2 .last .ensures) (x1 .put-tested .ensures)
+    let x5 = x4 .before in
+    tested-put (write-step-says t x5) (with-test t x4) (x3 .write .ensures) (x2 .last2 .ensures) (x5 .before .before .pre .1 .2) (x1 .put-part2 .ensures)
 
 -- The steps of a path are put in a loop.
 abbrev write-steps-Inv-loop : write-steps-lts.InvT-loop
-write-steps-Inv-loop rows n rule₀ row₀ w₀ rule row w = Along rows n rule₀ w₀ row rule w
+write-steps-Inv-loop rows n rule₀ entries bytes row₀ so-far₀ rule row so-far = Along rows n rule₀ (written entries bytes) row rule so-far
 
 abbrev write-steps-μ-loop : write-steps-lts.MeasureT-loop
-write-steps-μ-loop rows n rule₀ row₀ w₀ rule row w = todo w row
+write-steps-μ-loop rows n rule₀ entries bytes row₀ so-far₀ rule row so-far = todo (so-far .entries) row
 
 write-steps-says : (t : ℕ) (c : write-steps-lts.After-part-at (write-steps-calls t) (write-steps-at t) write-steps.Post write-steps-Inv-loop write-steps-μ-loop)
     → (let x = c .before .before .before .before .before in Says (x .before .before .args .rows .now) (x .loop .row) (c .part-at .result))
@@ -330,7 +280,7 @@ write-steps-says t c = record { part-is = c .part-at .ensures }
 write-steps-loop-holds : (t : ℕ) → write-steps-lts.Need-loop-holds (write-steps-calls t) (write-steps-at t) write-steps.Post write-steps-Inv-loop write-steps-μ-loop
 write-steps-loop-holds t c =
     let s = c .before in
-    along-none (s .args .rows .now) (s .args .n) (s .args .rule .now) (s .args .w) (s .pre .1 .0) (s .pre .1 .1) (s .pre .1 .2)
+    along-none (s .args .rows .now) (s .args .n) (s .args .rule .now) (written (s .args .entries) (s .args .bytes)) (s .pre .1 .0) (s .pre .1 .1) (s .pre .1 .2)
 
 write-steps-write-step-requires : (t : ℕ) → write-steps-lts.Need-write-step-requires (write-steps-calls t) (write-steps-at t) write-steps.Post write-steps-Inv-loop write-steps-μ-loop
 write-steps-write-step-requires t c κs =
@@ -367,32 +317,19 @@ write-steps-loop-again t c =
     along-more (x2 .before .before .loop .inv) (write-steps-says t x1) (x2 .write-step .ensures) (c .if1 .left) (search needs)
 
 pub +write+write-step+write-steps-spec : {M : Type 1} → statement M
-+write+write-step+write-steps-spec = close μ-write μ-write-step μ-write-steps (λ t. write-lts.spec (
-  part-at-reads.Asked,
-  part-at-reads.Learnt,
-  put-record-reads.Asked,
-  put-record-reads.Learnt,
-  write-below t,
-  write.Post,
-  last-reads.Asked,
-  last-reads.Learnt,
-  write-steps-below t,
-  write-steps.Post,
-)
++write+write-step+write-steps-spec = close μ-write μ-write-step μ-write-steps (λ t. write-lts.spec (write-calls t)
     (write-at t)
     write.Post
     (write-part-at-requires t)
-    (write-put-record-requires t)
-    (write-put-record-requires-2 t)
     (write-write-requires t)
     (write-last-requires t)
-    (write-put-record-requires-3 t)
+    (write-put-part-requires t)
     (write-write-requires-2 t)
     (write-write-requires-3 t)
     (write-last-requires-2 t)
-    (write-last-requires-3 t)
-    (write-put-record-requires-4 t)
-    (write-put-record-requires-5 t)
+    (write-put-part-requires-2 t)
+    (write-put-part-requires-3 t)
+    (write-put-part-requires-4 t)
     (write-write-steps-requires t)
     (write-same-length t)
     (write-returns t)
@@ -401,17 +338,16 @@ pub +write+write-step+write-steps-spec : {M : Type 1} → statement M
     (write-same-length-3 t)
     (write-returns-3 t)
     (write-same-length-4 t)
-    (write-returns-4 t)
-    (write-same-length-5 t)
-    (write-returns-5 t))
+    (write-returns-4 t))
     (λ t. write-step-lts.spec (write-step-calls t)
     (write-step-at t)
     write-step.Post
     (write-step-part-at-requires t)
-    (write-step-put-plain-requires t)
-    (write-step-write-requires t)
     (write-step-last-requires t)
-    (write-step-put-tested-requires t)
+    (write-step-put-part-requires t)
+    (write-step-write-requires t)
+    (write-step-last-requires-2 t)
+    (write-step-put-part-requires-2 t)
     (write-step-same-length t)
     (write-step-returns t)
     (write-step-same-length-2 t)
