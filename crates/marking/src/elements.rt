@@ -9,7 +9,7 @@ ghost use Rattle.layout.specs.Links.{Linked};
 ghost use Rattle.marking.specs.Pass.{Stored, Marked};
 ghost use Rattle.grammar.specs.Table.{entriesIn};
 ghost use Rattle.terms.specs.Limits.{entriesMost};
-use crate::entry::mark_entries;
+use crate::passes::mark_entries;
 use crate::word::bit_at;
 use rules::table::ENTRY_PLACES;
 

@@ -4,7 +4,7 @@
 mod ahead;
 mod back;
 mod elements;
-mod entry;
 mod local;
+mod passes;
 pub mod report;
 mod word;

@@ -10,7 +10,7 @@ use lib.Dec.{leb}
 use lib.ListN.{length, drop, length-append}
 use lib.Seq.{sets}
 use Rattle.terms.specs.Kinds.{rowOf}
-use Rattle.rules.specs.declared.rule.Entry.{Entry}
+use Rattle.entry.specs.declared.entry.Entry.{Entry}
 use Rattle.numbers.specs.Bytes.{twoBytes}
 use Rattle.grammar.specs.Rules.{bodyOf, recordOf, ruleBytes}
 use Rattle.grammar.specs.When.{Sized}

@@ -4,7 +4,7 @@ use mathlib.Core.Path.{_≡_, refl}
 use mathlib.Core.List.{List}
 use borrow.Author.Tests.{le-leb, lt-leb, eq-eqb, ne-eqb}
 use lib.Dec.{eqb, leb}
-use Rattle.rules.specs.declared.rule.Entry.{Entry}
+use Rattle.entry.specs.declared.entry.Entry.{Entry}
 use Rattle.paths.specs.Translation.{entry, lastOf, putDown}
 use Rattle.typing.specs.declared.put.Written.{Written}
 use Rattle.typing.specs.Writing.{Change, oneMore, plainEntries, downEntries, besideEntries, testedEntries, Asks, Puts}
