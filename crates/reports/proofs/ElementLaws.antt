@@ -87,7 +87,10 @@ module _ (s labels₀ levels₀ : List ℕ) where
           ∙ rw (tag-closes s at k) (append-nil (levels (tagsBefore s i)))
 
     -- The tag in hand, taken with no fault.
-    module _ (ne : at ≡ length s → ⊥) (t : TakenTag) (is : t ≡ tagTaken s at d e) (z : t .fault ≡ 0) where
+    module _ (on : at < length s) (t : TakenTag) (is : t ≡ tagTaken s at d e) (z : t .fault ≡ 0) where
+      ne : at ≡ length s → ⊥
+      ne q = omega arith
+
       fine : recordFault s at d e ≡ 0
       fine = sym (taken-number s at d e t is) ∙ z
 
@@ -137,21 +140,23 @@ module _ (s labels₀ levels₀ : List ℕ) where
       stopped q a = record { answer = a; labels-are = rw (read-is q) (m .labels-are); levels-are = rw (read-is q) (m .levels-are) }
 
       -- It stops where the report ends ..
-      pub walk-ended : at ≡ length s → {r : Answer} → r ≡ endOf (length s) d e → ElementsTaken s labels₀ levels₀ r labels₁ levels₁
+      pub walk-ended : length s ≤ at → {r : Answer} → r ≡ endOf (length s) d e → ElementsTaken s labels₀ levels₀ r labels₁ levels₁
       unfolding reportStops
-      walk-ended q a =
-          stopped (mid-ended s (reportFault s) (m .mid .mid) q (length s) (omega (arith, m .mid .mid .slow, m .mid .mid .within)))
+      walk-ended o a =
+          let q : at ≡ length s = omega (arith, m .mid .mid .within) in
+          stopped (mid-ended s (reportFault s) (m .mid .mid) q (length s) (omega (arith, m .mid .mid .slow)))
           (a ∙ report-ends s (m .mid) some few q)
 
       -- .. or at a record that has a fault.
-      pub walk-refused : (at ≡ length s → ⊥) → (t : TakenTag) → t ≡ tagTaken s at d e → (t .fault ≡ 0 → ⊥)
+      pub walk-refused : at < length s → (t : TakenTag) → t ≡ tagTaken s at d e → (t .fault ≡ 0 → ⊥)
           → ElementsTaken s labels₀ levels₀ (Refused (t .fault) at) labels₁ levels₁
       unfolding reportStops
-      walk-refused ne t is n =
+      walk-refused on t is n =
           let f = taken-number s at d e t is in
+          let ne : (at ≡ length s → ⊥) = λ q. omega arith in
           let wrong : (recordFault s at d e ≡ 0 → ⊥) = λ z. n (f ∙ z) in
           stopped
-          (mid-faulty s (reportFault s) (m .mid .mid) ne (λ z. wrong (sym (fault-is s (m .mid)) ∙ z)) (length s) (omega (arith, m .mid .mid .slow, m .mid .mid .within)))
+          (mid-faulty s (reportFault s) (m .mid .mid) ne (λ z. wrong (sym (fault-is s (m .mid)) ∙ z)) (length s) (omega (arith, m .mid .mid .slow)))
           (ap (λ (k : ℕ). Refused k at) f ∙ report-refuses s (m .mid) some few ne wrong)
 
   -- Where nothing is read the columns stay: a report of no byte, or of too many.

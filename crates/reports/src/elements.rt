@@ -55,7 +55,8 @@ pub fn read_elements(report: &[u8], labels: &mut [u16], levels: &mut [u16]) -> A
     let mut depth: usize = 0;
     let mut elements: usize = 0;
     let answer = loop {
-        if at == report.len() {
+        // At the end; not `==`, so that the compiler knows of every record taken that it begins before it.
+        if report.len() <= at {
             break end_of(report.len(), depth, elements);
         }
         let taken = take_tag(report, at, depth, elements);

@@ -98,10 +98,10 @@ fn take_closing(s: &[u8], at: usize, depth: usize, elements: usize) -> TakenTag
 pub fn take_tag(s: &[u8], at: usize, depth: usize, elements: usize) -> TakenTag
     ensures { λ r. ⌜ (r ≡ tagTaken (now (s .entry)) at depth elements) × (r .label < 65536) ⌝ }
 {
-    if s.len() < 4 {
+    if s.len() < at {
         return broken_tag();
     }
-    if s.len() - 4 < at {
+    if s.len() - at < 4 {
         return broken_tag();
     }
     let kind = number_at(s, at + 2);

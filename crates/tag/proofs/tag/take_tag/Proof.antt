@@ -21,7 +21,7 @@ broken-tag-requires-2 c κs = search needs
 returns-2 : tie.Need-returns-2
 returns-2 c =
     let (b, small) = c .broken-tag2 .ensures in
-    (b ∙ record-few _ _ _ _ (omega (arith, c .before .if2 .taken, c .before .before .if1 .left)), small)
+    (b ∙ record-few _ _ _ _ (omega (arith, c .before .if2 .taken)), small)
 
 add-number-at : tie.Need-add-number-at
 add-number-at c = search needs
