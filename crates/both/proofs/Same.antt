@@ -8,9 +8,9 @@ use mathlib.Core.List.{List, _∷_, _++_}
 use lib.ListN.{length, getD}
 use Rattle.reports.specs.Report.{reportAnswer, tagsOf as tagsIn}
 use Rattle.rules.specs.Rule.{ruleAnswer}
-use Rattle.reports.specs.Tags.{opens, labels, openedCount}
+use Rattle.tag.specs.Tags.{opens, labels, openedCount}
 use Rattle.terms.specs.declared.answer.Answer.the-variants.{Accepted}
-use Rattle.reports.proofs.TagLaws.{opened-append}
+use Rattle.tag.proofs.TagLaws.{opened-append}
 use Rattle.numbers.specs.Bytes.{Bytes}
 use Rattle.grammar.proofs.Elements.{labels-accepted, elements-count, levels-elements}
 use Rattle.meaning.specs.OnePass.{LooksBack}

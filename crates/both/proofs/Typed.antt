@@ -10,7 +10,7 @@ use mathlib.Core.Logic.{_↔_}
 use lib.ListN.{length, getD, take, drop}
 use lib.Seq.{take-append-seam}
 use Rattle.reports.specs.Report.{reportAnswer, tagsOf as tagsIn}
-use Rattle.reports.specs.Tags.{opens, openedCount}
+use Rattle.tag.specs.Tags.{opens, openedCount}
 use Rattle.terms.specs.declared.answer.Answer.the-variants.{Accepted}
 use Rattle.numbers.specs.Bytes.{Bytes}
 use Rattle.numbers.proofs.Lists.{over-is}

@@ -9,8 +9,8 @@ use lib.ListN.{replicate}
 use Rattle.terms.specs.declared.answer.Answer.the-variants.{Accepted}
 use Rattle.terms.specs.Limits.{labelMost}
 use Rattle.reports.specs.Report.{tagsOf, reportAnswer}
-use Rattle.reports.specs.Tags.{Tag, opens, closes, depthFrom, depth, labels, openedCount}
-use Rattle.reports.proofs.TagLaws.{depth-append}
+use Rattle.tag.specs.Tags.{Tag, opens, closes, depthFrom, depth, labels, openedCount}
+use Rattle.tag.proofs.TagLaws.{depth-append}
 use Rattle.numbers.specs.Bytes.{Bytes, twoBytes}
 use Rattle.grammar.specs.Legal.{Fit, Legal}
 use Rattle.grammar.specs.Reports.{sizeT, tagBytes, bytesOf}

@@ -9,13 +9,13 @@ use lib.ListN.{length, length-append}
 use Rattle.terms.specs.Answer.{countOf, whereAccepted}
 use Rattle.terms.specs.Frame.{startOf}
 use Rattle.reports.specs.Report.{tagsBefore, reportFault, reportAnswer, tagsOf}
-use Rattle.reports.specs.Tags.{labels, levels, openedCount}
+use Rattle.tag.specs.Tags.{labels, levels, openedCount}
 use Rattle.terms.specs.declared.answer.Answer.{Answer}
 use Rattle.terms.specs.declared.answer.Answer.the-variants.{Accepted, Refused}
 use Rattle.grammar.specs.Legal.{Legal, LegalLevels}
 use Rattle.grammar.specs.Reports.{Tree, tagsT, bytesOf, Labelled, Within}
 use Rattle.grammar.specs.When.{Ended}
-use Rattle.reports.proofs.TagLaws.{levels-count}
+use Rattle.tag.proofs.TagLaws.{levels-count}
 use Rattle.grammar.proofs.Fits.{fit-few, fit-labelled, legal-levels}
 use Rattle.grammar.proofs.Trees.{tree-some, tags-size, legal-tree}
 use Rattle.grammar.proofs.WhenReport.{report-accepted-iff, report-last}

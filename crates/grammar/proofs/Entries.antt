@@ -11,11 +11,12 @@ use borrow.Author.Tests.{lt-leb}
 use Rattle.terms.specs.Answer.{countOf}
 use Rattle.terms.specs.Frame.{kindAt, startOf}
 use Rattle.terms.specs.Kinds.{rowOf, ruleLength}
-use Rattle.rules.specs.Rule.{entryOf, entryAt, ruleAnswer, ruleFaults}
+use Rattle.entry.specs.Entry.{entryOf, entryAt}
+use Rattle.rules.specs.Rule.{ruleAnswer, ruleFaults}
 use Rattle.terms.specs.declared.answer.Answer.{Answer}
 use Rattle.terms.specs.declared.answer.Answer.the-variants.{Accepted, Refused}
 use Rattle.terms.specs.declared.kind.Numbers.the-variants.{Entries}
-use Rattle.rules.specs.declared.rule.Entry.{Entry}
+use Rattle.entry.specs.declared.entry.Entry.{Entry}
 use Rattle.grammar.specs.Rules.{noEntry, WellFormed, RuleEntries}
 use Rattle.grammar.specs.When.{Sized, bad-label, bad-a, bad-b, Ended}
 use Rattle.grammar.proofs.Frame.{unfaulty-sound}

@@ -9,10 +9,10 @@ use mathlib.Core.List.{List, [], _∷_, _++_}
 use mathlib.Core.Logic.{_↔_}
 use lib.Dec.{ltb, eqb}
 use lib.ListN.{length, getD}
-use Rattle.reports.specs.Tags.{Tag, opens, closes, depthFrom, depth, labels, levelsFrom, levels, openedCount, tagFault}
+use Rattle.tag.specs.Tags.{Tag, opens, closes, depthFrom, depth, labels, levelsFrom, levels, openedCount, tagFault}
 use Rattle.grammar.specs.Legal.{Fit, LegalLevels}
 use Rattle.grammar.specs.Reports.{Labelled}
-use Rattle.reports.proofs.TagLaws.{depth-append, opened-append, levels-count}
+use Rattle.tag.proofs.TagLaws.{depth-append, opened-append, levels-count}
 use Rattle.grammar.proofs.TagRows.{opens-well-iff, closes-well-iff}
 use Rattle.terms.specs.Limits.{elementsMost, labelMost}
 

@@ -14,8 +14,9 @@ use lib.ListN.{length, drop, length-append}
 use lib.Seq.{drop-length}
 use Rattle.numbers.specs.Bytes.{wordAt, numberAt}
 use Rattle.terms.specs.Frame.{kindAt, nextOf, startOf}
-use Rattle.reports.specs.Tags.{Tag, opens, closes, openedCount}
-use Rattle.reports.specs.Report.{reportLength, tagAt, tagsBefore, reportFault, reportAnswer, tagsOf}
+use Rattle.tag.specs.Tags.{Tag, opens, closes, openedCount}
+use Rattle.tag.specs.Record.{reportLength, tagAt}
+use Rattle.reports.specs.Report.{tagsBefore, reportFault, reportAnswer, tagsOf}
 use Rattle.terms.specs.declared.answer.Answer.the-variants.{Accepted}
 use Rattle.numbers.specs.Bytes.{twoBytes, Bytes}
 use Rattle.grammar.specs.Legal.{Fit, Legal}

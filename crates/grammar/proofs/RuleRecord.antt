@@ -11,8 +11,8 @@ use lib.ListN.{length, take, drop, length-append}
 use Rattle.numbers.specs.Bytes.{numberAt}
 use Rattle.terms.specs.Frame.{kindAt}
 use Rattle.terms.specs.Kinds.{rowOf, ruleLength}
-use Rattle.rules.specs.Rule.{entryOf, entryAt}
-use Rattle.rules.specs.declared.rule.Entry.{Entry}
+use Rattle.entry.specs.Entry.{entryOf, entryAt}
+use Rattle.entry.specs.declared.entry.Entry.{Entry}
 use Rattle.numbers.specs.Bytes.{twoBytes, Bytes}
 use Rattle.grammar.specs.Rules.{bodyOf, recordOf, WellFormed}
 use Rattle.grammar.specs.When.{Misdirected}

@@ -11,9 +11,10 @@ use lib.Seq.{take-add, take-suc, take-length, split-at, ext-getD}
 use Rattle.terms.specs.Answer.{countOf}
 use Rattle.numbers.specs.Bytes.{numberAt}
 use Rattle.terms.specs.Frame.{nextOf, startOf}
-use Rattle.rules.specs.Rule.{entryAt, ruleFault, ruleAnswer, ruleFaults}
+use Rattle.entry.specs.Entry.{entryAt, ruleFault}
+use Rattle.rules.specs.Rule.{ruleAnswer, ruleFaults}
 use Rattle.terms.specs.declared.answer.Answer.the-variants.{Accepted}
-use Rattle.rules.specs.declared.rule.Entry.{Entry}
+use Rattle.entry.specs.declared.entry.Entry.{Entry}
 use Rattle.terms.specs.Kinds.{ruleLength}
 use Rattle.numbers.specs.Bytes.{Bytes}
 use Rattle.grammar.specs.Rules.{noEntry, recordOf, ruleBytes, WellFormed, RuleEntries}

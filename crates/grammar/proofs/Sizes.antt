@@ -8,13 +8,13 @@ use lib.Dec.{ltb, eqb}
 use lib.ListN.{length, length-append}
 use Rattle.numbers.specs.Bytes.{numberAt}
 use Rattle.terms.specs.Frame.{kindAt, nextOf, startOf}
-use Rattle.reports.specs.Report.{tagAt, tagsBefore, recordFault, reportFault, reportAnswer}
-use Rattle.reports.specs.Tags.{Tag, opens, closes, depthFrom, depth, labels, openedCount, tagFault}
+use Rattle.tag.specs.Record.{tagAt, recordFault}
+use Rattle.reports.specs.Report.{tagsBefore, reportFault, reportAnswer}
+use Rattle.tag.specs.Tags.{Tag, opens, closes, depthFrom, depth, labels, openedCount, tagFault}
 use Rattle.terms.specs.declared.answer.Answer.the-variants.{Accepted}
-use Rattle.reports.proofs.ReportLaws.{tag-opens, tag-closes, record-sound, close-sound}
-use Rattle.reports.proofs.TagLaws.{depth-append, labels-append}
+use Rattle.tag.proofs.RecordLaws.{tag-opens, tag-closes, record-sound, close-sound, opens-size, closes-size}
+use Rattle.tag.proofs.TagLaws.{depth-append, labels-append}
 use Rattle.grammar.proofs.WhenReport.{report-accepted-iff}
-use Rattle.reports.proofs.ElementLaws.{opens-size, closes-size}
 use Rattle.numbers.specs.Lists.{listed}
 
 -- A closing takes four bytes, and four times the elements open is as much less.

@@ -9,7 +9,7 @@ use lib.ListN.{length, getD}
 use Rattle.numbers.specs.Lists.{listed, over}
 use Rattle.numbers.proofs.Lists.{listed-length, listed-at, listed-only, over-at}
 use Rattle.rules.specs.Entries.{flat}
-use Rattle.rules.specs.declared.rule.Entry.{Entry}
+use Rattle.entry.specs.declared.entry.Entry.{Entry}
 use Rattle.rules.proofs.EntryLaws.{flat-length}
 use Rattle.grammar.specs.Rules.{noEntry}
 use Rattle.grammar.specs.Table.{entryIn, entriesIn}

@@ -6,7 +6,7 @@ use mathlib.Core.Path.{_≡_, refl}
 use mathlib.Core.Bool.{Bool, false, _||_, _&&_}
 use mathlib.Core.Logic.{_↔_, _⊎_, inl, inr, ⊎-elim}
 use lib.Dec.{leb, ltb, eqb}
-use Rattle.reports.specs.Tags.{Tag, opens, closes, tagFault}
+use Rattle.tag.specs.Tags.{Tag, opens, closes, tagFault}
 use Rattle.grammar.specs.When.{Outside, Mislabelled, bad-tag, Unbalanced, nothing-open, root-closed, TooMuch, too-deep}
 use Rattle.grammar.specs.When.{too-many}
 use Rattle.numbers.proofs.Tells.{IsTest, fails, test-iff, ltb-tests, leb-tests, eqb-tests, or-tests, and-tests}

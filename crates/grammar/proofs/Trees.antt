@@ -7,12 +7,12 @@ use mathlib.Core.Path.{_≡_, refl, sym, ap, ap₂, _∙_}
 use mathlib.Core.List.{List, [], _∷_, _++_, append-assoc, append-nil}
 use lib.ListN.{length, length-append, List·getD-append}
 use lib.Seq.{getD-append-add}
-use Rattle.reports.specs.Tags.{Tag, opens, closes, depthFrom, labels, openedCount}
+use Rattle.tag.specs.Tags.{Tag, opens, closes, depthFrom, labels, openedCount}
 use Rattle.grammar.specs.Reports.{Tree, node, Forest, empty, _before_, tagsT, tagsF, sizeT, sizeF, heightT, heightF}
 use Rattle.grammar.specs.Reports.{Labelled, Within, bytesOf, tagBytes}
 use Rattle.numbers.specs.Bytes.{twoBytes}
 use Rattle.grammar.specs.Legal.{Fit, Legal}
-use Rattle.reports.proofs.TagLaws.{depth-append, labels-append, opened-append}
+use Rattle.tag.proofs.TagLaws.{depth-append, labels-append, opened-append}
 use Rattle.grammar.proofs.TagRows.{OpensWell, opens-well-iff, closes-well-iff}
 use Rattle.grammar.proofs.Fits.{fit-append, fit-few, fit-labelled}
 use Rattle.terms.specs.Limits.{elementsMost, levelsMost}

@@ -10,9 +10,9 @@ use lib.Dec.{ltb, eqb}
 use lib.ListN.{length}
 use Rattle.numbers.specs.First.{first}
 use Rattle.terms.specs.Frame.{frameOf, kindAt, broken, startOf, stopsAt}
-use Rattle.reports.specs.Tags.{Tag, depth, openedCount, tagFault}
-use Rattle.reports.specs.Report.{reportLength, tagAt, tagsBefore, recordFault, reportFault, reportStops, endOf, reportAnswerAt}
-use Rattle.reports.specs.Report.{reportAnswer, lastRecord}
+use Rattle.tag.specs.Tags.{Tag, depth, openedCount, tagFault, endOf}
+use Rattle.tag.specs.Record.{reportLength, tagAt, recordFault}
+use Rattle.reports.specs.Report.{tagsBefore, reportFault, reportStops, reportAnswerAt, reportAnswer, lastRecord}
 use Rattle.terms.specs.declared.answer.Answer.{Answer}
 use Rattle.terms.specs.declared.answer.Answer.the-variants.{Accepted, Refused}
 use Rattle.grammar.specs.When.{Faulty, Sized, Reached, Ended, Row6, Row7, Row8, AtFirst, EndsOpen, EndsWell}

@@ -11,13 +11,14 @@ use lib.ListN.{length}
 use Rattle.numbers.specs.First.{first}
 use Rattle.terms.specs.Frame.{frameOf, kindAt, broken, startOf}
 use Rattle.terms.specs.Kinds.{rowOf, ruleLength}
-use Rattle.rules.specs.Rule.{entryAt, misdirected, ruleFault, ruleStops, ruleAnswerAt, ruleAnswer, ruleFaults}
+use Rattle.entry.specs.Entry.{entryAt, misdirected, ruleFault}
+use Rattle.rules.specs.Rule.{ruleStops, ruleAnswerAt, ruleAnswer, ruleFaults}
 use Rattle.terms.specs.declared.answer.Answer.{Answer}
 use Rattle.terms.specs.declared.answer.Answer.the-variants.{Accepted, Refused}
 use Rattle.terms.specs.declared.kind.Numbers.{Numbers}
 use Rattle.terms.specs.declared.kind.Numbers.the-variants.{Nothing, Label, Entries}
 use Rattle.terms.specs.declared.kind.Row.{Row}
-use Rattle.rules.specs.declared.rule.Entry.{Entry}
+use Rattle.entry.specs.declared.entry.Entry.{Entry}
 use Rattle.grammar.specs.When.{Sized, Faulty, Outside, Reached, Ended}
 use Rattle.grammar.specs.When.{Misdirected, bad-label, bad-a, bad-b, MisdirectedAt}
 use Rattle.grammar.proofs.Chain.{Distinct, chain-numbers, chain-first-iff, chain-second-iff, chain-third-iff, chain-none-iff}

@@ -7,7 +7,7 @@ use mathlib.Core.Bool.{_&&_}
 use mathlib.Core.List.{List, [], _∷_}
 use lib.Dec.{ltb, eqb}
 use lib.ListN.{length, getD}
-use Rattle.reports.specs.Tags.{Tag, depthFrom, openedCount, tagFault}
+use Rattle.tag.specs.Tags.{Tag, depthFrom, openedCount, tagFault}
 use Rattle.terms.specs.Limits.{elementsMost}
 
 -- No tag gets a number, where d elements are open and e have been opened before the tags.

@@ -4,7 +4,7 @@
 use Prim.Native.Nat.{ℕ, suc, _+_, _≤_, _<_, max}
 use mathlib.Core.List.{List, [], _∷_, _++_}
 use lib.ListN.{length, getD}
-use Rattle.reports.specs.Tags.{Tag, opens, closes, labels}
+use Rattle.tag.specs.Tags.{Tag, opens, closes, labels}
 use Rattle.numbers.specs.Bytes.{twoBytes}
 use Rattle.terms.specs.Limits.{labelMost, elementsMost, levelsMost}
 

@@ -7,7 +7,7 @@ use mathlib.Core.List.{List, [], _∷_, _++_}
 use lib.Dec.{leb}
 use lib.ListN.{length, getD}
 use Rattle.terms.specs.Kinds.{rowOf}
-use Rattle.rules.specs.declared.rule.Entry.{Entry}
+use Rattle.entry.specs.declared.entry.Entry.{Entry}
 use Rattle.numbers.specs.Bytes.{twoBytes}
 use Rattle.grammar.specs.When.{Misdirected}
 use Rattle.terms.specs.Limits.{entriesMost}

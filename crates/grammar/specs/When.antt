@@ -8,12 +8,13 @@ use lib.ListN.{length}
 use Rattle.numbers.specs.Bytes.{numberAt}
 use Rattle.terms.specs.Frame.{kindAt, startOf}
 use Rattle.terms.specs.Kinds.{rowOf}
-use Rattle.reports.specs.Report.{reportLength, tagAt, tagsBefore, reportFault}
-use Rattle.rules.specs.Rule.{entryAt}
-use Rattle.reports.specs.Tags.{Tag, opens, closes, depth, openedCount}
+use Rattle.tag.specs.Record.{reportLength, tagAt}
+use Rattle.reports.specs.Report.{tagsBefore, reportFault}
+use Rattle.entry.specs.Entry.{entryAt}
+use Rattle.tag.specs.Tags.{Tag, opens, closes, depth, openedCount}
 use Rattle.terms.specs.declared.kind.Numbers.the-variants.{Label, Entries}
 use Rattle.terms.specs.declared.kind.Row.{Row}
-use Rattle.rules.specs.declared.rule.Entry.{Entry}
+use Rattle.entry.specs.declared.entry.Entry.{Entry}
 use Rattle.terms.specs.Limits.{labelMost, elementsMost, levelsMost}
 
 -- Rows 1 and 5 do not apply: the string has 1 byte or more, and not more than `most`.

@@ -15,7 +15,7 @@ use Rattle.rules.specs.Rule.{ruleAnswer}
 use Rattle.reports.specs.Report.{reportAnswer}
 use Rattle.terms.specs.declared.answer.Answer.{Answer}
 use Rattle.terms.specs.declared.answer.Answer.the-variants.{Accepted, Refused}
-use Rattle.rules.specs.declared.rule.Entry.{Entry}
+use Rattle.entry.specs.declared.entry.Entry.{Entry}
 use Rattle.terms.specs.Limits.{elementsMost, entriesMost, reportMost}
 use Rattle.grammar.specs.Table.{entriesIn}
 use Rattle.grammar.specs.Rules.{RuleEntries}

@@ -12,7 +12,7 @@ use Rattle.terms.specs.Answer.{numberOf, placeOf, countOf, byAnswer, inOrder}
 use Rattle.rules.specs.Rule.{ruleAnswer}
 use Rattle.reports.specs.Report.{reportAnswer}
 use Rattle.terms.specs.declared.answer.Answer.{Answer}
-use Rattle.rules.specs.declared.rule.Entry.{Entry}
+use Rattle.entry.specs.declared.entry.Entry.{Entry}
 use Rattle.terms.specs.declared.answer.Answer.the-variants.{Accepted, Refused}
 use Rattle.meaning.specs.Marks.{words, selected}
 use Rattle.layout.specs.Layout.{leastOf, roomIn, LaidOut}

@@ -8,7 +8,7 @@ ghost use Rattle.meaning.specs.Marks.{selected};
 ghost use Rattle.marking.specs.Pass.{Stored, Columns, Marked};
 ghost use Rattle.grammar.specs.Table.{entriesIn};
 ghost use Rattle.terms.specs.Limits.{entriesMost};
-use crate::entry::mark_entries;
+use crate::passes::mark_entries;
 use rules::table::ENTRY_PLACES;
 use steps::word::bit_in;
 

@@ -4,6 +4,6 @@
 mod ahead;
 mod back;
 mod elements;
-mod entry;
 mod local;
+mod passes;
 pub mod report;

@@ -7,7 +7,7 @@ use mathlib.Core.List.{List, _++_}
 use mathlib.Core.Logic.{⊎-elim}
 use borrow.Author.Tests.{ne-eqb}
 use lib.ListN.{length, getD, List·getD-append}
-use Rattle.rules.specs.declared.rule.Entry.{Entry}
+use Rattle.entry.specs.declared.entry.Entry.{Entry}
 use Rattle.grammar.specs.Rules.{noEntry}
 use Rattle.meaning.specs.Meaning.{Below, Holds}
 

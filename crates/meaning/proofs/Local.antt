@@ -10,9 +10,9 @@ use mathlib.Core.List.{List, [], _∷_, _++_}
 use mathlib.Core.Option.{Option, none, some}
 use lib.Dec.{eqb}
 use lib.ListN.{length, getD, List·getD-eq-default}
-use Rattle.rules.specs.declared.rule.Entry.{Entry}
-use Rattle.reports.specs.Tags.{Tag, opens, depth, levelsFrom, levels, labels, openedCount}
-use Rattle.reports.proofs.TagLaws.{levels-append, labels-append, levels-count}
+use Rattle.entry.specs.declared.entry.Entry.{Entry}
+use Rattle.tag.specs.Tags.{Tag, opens, depth, levelsFrom, levels, labels, openedCount}
+use Rattle.tag.proofs.TagLaws.{levels-append, labels-append, levels-count}
 use Rattle.numbers.proofs.First.{clash}
 use Rattle.grammar.specs.Rules.{noEntry}
 use Rattle.meaning.specs.Links.{link}

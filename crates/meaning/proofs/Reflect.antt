@@ -7,7 +7,7 @@ use mathlib.Core.List.{List}
 use mathlib.Core.Logic.{_↔_}
 use lib.Dec.{eqb}
 use lib.ListN.{length, getD}
-use Rattle.rules.specs.declared.rule.Entry.{Entry}
+use Rattle.entry.specs.declared.entry.Entry.{Entry}
 use Rattle.grammar.specs.Rules.{noEntry}
 use Rattle.numbers.proofs.Tells.{IsTest, holds, fails, true-iff, eqb-tests, or-tests, and-tests, not-tests}
 use Rattle.terms.specs.declared.kind.Axis.{Axis}

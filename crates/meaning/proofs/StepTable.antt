@@ -10,7 +10,7 @@ use mathlib.Core.Bool.{Bool, true}
 use mathlib.Core.List.{List, [], _∷_, _++_}
 use mathlib.Core.Option.{Option, none, some}
 use lib.ListN.{length, getD, List·getD-append}
-use Rattle.rules.specs.declared.rule.Entry.{Entry}
+use Rattle.entry.specs.declared.entry.Entry.{Entry}
 use Rattle.numbers.proofs.First.{clash}
 use Rattle.grammar.specs.Rules.{noEntry, RuleEntries}
 use Rattle.grammar.proofs.Entries.{formed-a, formed-b}

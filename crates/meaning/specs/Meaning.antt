@@ -10,7 +10,7 @@ use mathlib.Core.Logic.{_⊎_}
 use mathlib.Core.List.{List}
 use lib.Dec.{eqb}
 use lib.ListN.{getD}
-use Rattle.rules.specs.declared.rule.Entry.{Entry}
+use Rattle.entry.specs.declared.entry.Entry.{Entry}
 use Rattle.terms.specs.declared.kind.Local.{Local}
 use Rattle.terms.specs.declared.kind.Local.the-variants.{Always as always, HasLabel as hasLabel, Negation as negation, Disjunction as disjunction, Conjunction as conjunction}
 use Rattle.terms.specs.declared.kind.Shape.{Shape}

@@ -9,9 +9,9 @@ use mathlib.Core.Bool.{Bool, true, false, cond, _&&_, _||_}
 use mathlib.Core.List.{List, [], _∷_}
 use lib.Dec.{eqb, ltb}
 use lib.ListN.{length, getD, set, replicate}
-use Rattle.rules.specs.declared.rule.Entry.{Entry}
+use Rattle.entry.specs.declared.entry.Entry.{Entry}
 use Rattle.terms.specs.Kinds.{looksBack}
-use Rattle.reports.specs.Tags.{Tag, opens, closes, tagFault}
+use Rattle.tag.specs.Tags.{Tag, opens, closes, tagFault}
 use Rattle.grammar.specs.Rules.{noEntry}
 use Rattle.terms.specs.declared.kind.Axis.{Axis}
 use Rattle.terms.specs.declared.kind.Axis.the-variants.{Child as child, Parent as parent, Next as next, Previous as previous}

@@ -13,10 +13,10 @@ use lib.Dec.{eqb}
 use lib.ListN.{length, replicate}
 use Rattle.terms.specs.declared.answer.Answer.{Answer}
 use Rattle.terms.specs.declared.answer.Answer.the-variants.{Accepted, Refused}
-use Rattle.rules.specs.declared.rule.Entry.{Entry}
+use Rattle.entry.specs.declared.entry.Entry.{Entry}
 use Rattle.reports.specs.Report.{reportAnswer, tagsOf as tagsIn}
 use Rattle.rules.specs.Rule.{ruleAnswer}
-use Rattle.reports.specs.Tags.{Tag, opens, closes, openedCount}
+use Rattle.tag.specs.Tags.{Tag, opens, closes, openedCount}
 use Rattle.numbers.specs.Bytes.{Bytes}
 use Rattle.grammar.proofs.Elements.{accepted-legal, levels-accepted, labels-accepted}
 use Rattle.grammar.specs.Reports.{bytesOf}

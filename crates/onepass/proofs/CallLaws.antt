@@ -10,13 +10,13 @@ use lib.Dec.{eqb}
 use lib.ListN.{length}
 use Rattle.terms.specs.declared.answer.Answer.{Answer}
 use Rattle.terms.specs.declared.answer.Answer.the-variants.{Accepted, Refused}
-use Rattle.rules.specs.declared.rule.Entry.{Entry}
+use Rattle.entry.specs.declared.entry.Entry.{Entry}
 use Rattle.terms.specs.Answer.{placeOf, countOf, byAnswer, numbered}
 use Rattle.terms.proofs.AnswerLaws.{Sound, order-sound, numbered-sound, numbered-by}
 use Rattle.grammar.proofs.WhenRule.{rule-answer-sound}
 use Rattle.terms.specs.Limits.{ruleMost}
 use Rattle.rules.specs.Rule.{ruleAnswer}
-use Rattle.reports.specs.Tags.{Tag, opens, closes}
+use Rattle.tag.specs.Tags.{Tag, opens, closes}
 use Rattle.grammar.proofs.Entries.{entries-count, entries-some}
 use Rattle.meaning.specs.OnePass.{fault, openedVerdict}
 use Rattle.walk.specs.Walk.{looksAhead, Walked, Asked}

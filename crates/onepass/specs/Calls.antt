@@ -6,7 +6,7 @@ use mathlib.Core.List.{List, [], _∷_, _++_}
 use mathlib.Core.Path.{_≡_}
 use lib.Dec.{eqb}
 use Rattle.reports.specs.Report.{reportAnswer}
-use Rattle.reports.specs.Tags.{Tag, opens, closes}
+use Rattle.tag.specs.Tags.{Tag, opens, closes}
 use Rattle.terms.specs.declared.answer.Answer.the-variants.{Accepted}
 use Rattle.numbers.specs.Bytes.{Bytes}
 use Rattle.grammar.specs.Reports.{bytesOf}

@@ -8,9 +8,9 @@ use mathlib.Core.Bool.{Bool, false, cond}
 use mathlib.Core.List.{List}
 use Rattle.terms.specs.Answer.{numberOf, placeOf, byAnswer, inOrder, numbered}
 use Rattle.terms.specs.declared.answer.Answer.{Answer}
-use Rattle.rules.specs.declared.rule.Entry.{Entry}
+use Rattle.entry.specs.declared.entry.Entry.{Entry}
 use Rattle.rules.specs.Rule.{ruleAnswer}
-use Rattle.reports.specs.Tags.{Tag, opens, closes}
+use Rattle.tag.specs.Tags.{Tag, opens, closes}
 use Rattle.meaning.specs.OnePass.{State, openedVerdict}
 use Rattle.walk.specs.Walk.{looksAhead}
 use Rattle.state.specs.Promises.{startNumber, stateNumber}

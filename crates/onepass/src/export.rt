@@ -1,7 +1,7 @@
 // Start, open and close as C calls them; include/polonezar.h declares them.
 ghost use mathlib.Core.Bool.{false};
 ghost use Prim.Native.Nat.{pred, _≤_};
-ghost use Rattle.reports.specs.Tags.{opens, closes};
+ghost use Rattle.tag.specs.Tags.{opens, closes};
 ghost use Rattle.state.specs.Stores.{opening, closing};
 ghost use Rattle.onepass.specs.Step.{Stepped, Started, Opened, Closed};
 use numbers::bits::bit_at;

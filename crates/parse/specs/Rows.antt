@@ -42,7 +42,6 @@ formOf (along* x) = untilKind x
 formOf (passing t) = 5
 formOf (while x t) = 8 + neighbourKind x
 
-
 -- How many entries a test, a path, a step or the test of a step has.
 abbrev pub entriesT : Test → ℕ
 entriesT t = weightT (λ k. 1) t

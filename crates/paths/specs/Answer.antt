@@ -10,7 +10,7 @@ use lib.ListN.{length}
 use Rattle.terms.specs.Answer.{inOrder, whereAccepted}
 use Rattle.terms.specs.declared.answer.Answer.{Answer}
 use Rattle.terms.specs.declared.answer.Answer.the-variants.{Accepted, Refused}
-use Rattle.rules.specs.declared.rule.Entry.{Entry}
+use Rattle.entry.specs.declared.entry.Entry.{Entry}
 use Rattle.terms.specs.Limits.{entriesMost}
 use Rattle.grammar.specs.When.{Sized}
 use Rattle.grammar.specs.Rules.{ruleBytes}

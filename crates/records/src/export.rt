@@ -3,8 +3,8 @@ ghost use mathlib.Core.Path.{_≡_};
 ghost use Rattle.rules.specs.Rule.{ruleAnswer};
 ghost use Rattle.reports.specs.Report.{reportAnswer};
 ghost use Rattle.records.specs.Reply.{ruleReply, reportReply};
-use reports::report::read_report;
-use rules::rule::read_rule;
+use reports::elements::read_report;
+use rules::table::read_rule;
 use terms::answer::Answer;
 
 // What the rule reader answers: document 01's number, the place, and how many entries.

@@ -8,31 +8,35 @@ use mathlib.Core.List.{List, [], _∷_, _++_, append-nil}
 use lib.ListN.{length, set}
 use Rattle.terms.specs.Answer.{Accepts}
 use Rattle.terms.specs.Frame.{startOf, kindAt}
-use Rattle.reports.specs.Report.{reportAnswer, tagsOf, tagAt, tagsBefore, recordFault, reportFault, reportStops, endOf, reportAnswerAt, lastRecord}
-use Rattle.reports.specs.Tags.{labels, levels, levelsFrom, Tag, opens, closes, depth, openedCount, tagFault}
+use Rattle.tag.specs.Tags.{labels, levels, levelsFrom, Tag, opens, closes, depth, openedCount, tagFault, endOf}
+use Rattle.tag.specs.Record.{tagAt, recordFault, tagTaken}
+use Rattle.tag.specs.declared.tag.TakenTag.{TakenTag}
+use Rattle.reports.specs.Report.{reportAnswer, tagsOf, tagsBefore, reportFault, reportStops, reportAnswerAt, lastRecord}
+use Rattle.terms.specs.declared.answer.Answer.{Answer}
 use Rattle.terms.specs.declared.answer.Answer.the-variants.{Accepted, Refused}
-use borrow.Author.Tests.{lt-ltb, le-ltb, eqb-true, eqb-false}
+use borrow.Author.Tests.{lt-ltb, le-ltb}
 use lib.Dec.{ltb, eqb}
 use Rattle.numbers.specs.Bytes.{numberAt}
 use Rattle.terms.proofs.Reading.{mid-ended, mid-faulty, stops-not, mid-reached}
-use Rattle.reports.proofs.ReportLaws.{ReportMid, report-start, fault-is, tags-after, tag-opens, tag-closes, record-sound, length-opens, length-closes, length-none, open-sound}
-use Rattle.reports.proofs.TagLaws.{labels-append, levels-append, levels-count, opened-append}
+use Rattle.tag.proofs.RecordLaws.{tag-opens, tag-closes, record-sound, taken-number, taken-tag, open-sound, opens-size, closes-size}
+use Rattle.reports.proofs.ReportLaws.{ReportMid, report-start, fault-is, tags-after, report-next, report-opens, report-open, report-closes, report-ends, report-refuses, report-empty, report-long}
+use Rattle.tag.proofs.TagLaws.{labels-append, levels-append, levels-count, opened-append}
 use Rattle.terms.specs.Limits.{reportMost, elementsMost}
 use Rattle.numbers.proofs.First.{first-before}
-use Rattle.reports.specs.Elements.{labelsOf, levelsOf, tagsRead}
+use Rattle.reports.specs.Elements.{labelsOf, levelsOf, tagsRead, ElementsTaken}
 use Rattle.numbers.specs.Lists.{listed, over}
 use Rattle.numbers.proofs.Lists.{over-none, over-next}
 use Rattle.terms.proofs.AnswerLaws.{found-accepted, Within, within-either, refused-within, accepted-within, within-size}
 
 -- A column of the elements' table after a tag that puts a value behind the others, or puts nothing.
-pub element-put : (b : Bool) (xs more lent held last : List ℕ) (e v : ℕ) → length xs ≡ e → more ≡ cond b (xs ++ (v ∷ [])) xs
+element-put : (b : Bool) (xs more lent held last : List ℕ) (e v : ℕ) → length xs ≡ e → more ≡ cond b (xs ++ (v ∷ [])) xs
     → held ≡ over xs lent → last ≡ cond b (set held e v) held → last ≡ over more lent
 element-put true xs more lent held last e v n m p q =
     q ∙ ap (λ (ys : List ℕ). set ys e v) p ∙ over-next xs lent v e n ∙ ap (λ (ys : List ℕ). over ys lent) (sym m)
 element-put false xs more lent held last e v n m p q = q ∙ p ∙ ap (λ (ys : List ℕ). over ys lent) (sym m)
 
 -- The value put is read only where it is put.
-pub put-value : (b : Bool) (held last : List ℕ) (e v n : ℕ) → v ≡ cond b n 0 → last ≡ cond b (set held e v) held → last ≡ cond b (set held e n) held
+put-value : (b : Bool) (held last : List ℕ) (e v n : ℕ) → v ≡ cond b n 0 → last ≡ cond b (set held e v) held → last ≡ cond b (set held e n) held
 put-value true held last e v n p q = q ∙ ap (set held e) p
 put-value false held last e v n p q = q
 
@@ -45,21 +49,8 @@ pub levels-taken : (s : List ℕ) → Accepts (reportAnswer s) → levelsOf s �
 unfolding levelsOf
 levels-taken s a = found-accepted (reportAnswer s) (levels (tagsOf s)) a
 
--- A record with no fault has the length of its tag.
-module _ (s : List ℕ) (at d e : ℕ) (f : recordFault s at d e ≡ 0) where
-  pub opens-size : eqb (kindAt s at) 1 ≡ true → numberAt s at ≡ 4
-  opens-size k = record-sound s at d e f .0 .long ∙ length-opens s at (eqb-true (kindAt s at) 1 k)
-
-  pub closes-size : eqb (kindAt s at) 1 ≡ false → numberAt s at ≡ 2
-  closes-size k = go (eqb (kindAt s at) 2) refl
-    where
-      go : (b : Bool) → eqb (kindAt s at) 2 ≡ b → numberAt s at ≡ 2
-      go true q = record-sound s at d e f .0 .long ∙ length-closes s at (eqb-true (kindAt s at) 2 q)
-      go false q =
-          absurd (record-sound s at d e f .0 .known (length-none s at (eqb-false (kindAt s at) 1 k) (eqb-false (kindAt s at) 2 q)))
-
 -- The same place, said in another way.
-pub moved : {s : List ℕ} {i at d e : ℕ} (at′ : ℕ) → at ≡ at′ → ReportMid s i at d e → ReportMid s i at′ d e
+moved : {s : List ℕ} {i at d e : ℕ} (at′ : ℕ) → at ≡ at′ → ReportMid s i at d e → ReportMid s i at′ d e
 moved {s} {i} {at} {d} {e} at′ q m = subst (λ (x : ℕ). ReportMid s i x d e) q m
 
 -- Between two turns: the reader's counters, and the columns of the elements opened so far.
@@ -95,18 +86,49 @@ module _ (s labels₀ levels₀ : List ℕ) where
           ap levels (tags-after s (m .mid) ne f) ∙ levels-append 0 (tagsBefore s i) (tagAt s at ∷ [])
           ∙ rw (tag-closes s at k) (append-nil (levels (tagsBefore s i)))
 
-      -- One turn: the tag in hand, what it puts into the columns, and the reader's turn.
-      pub walk-turn : (b : Bool) → eqb (kindAt s at) 1 ≡ b → (labels₂ levels₂ : List ℕ) (v at′ d′ e′ : ℕ)
-          → v ≡ cond b (numberAt s (at + 4)) 0 → labels₂ ≡ cond b (set labels₁ e v) labels₁ → levels₂ ≡ cond b (set levels₁ e d) levels₁
-          → ReportMid s (i + 1) at′ d′ e′ → WalkMid s labels₀ levels₀ labels₂ levels₂ (i + 1) at′ d′ e′
-      walk-turn b k labels₂ levels₂ v at′ d′ e′ n p q next =
-          record {
-            mid = next;
-            labels-are = element-put b (labels (tagsBefore s i)) _ labels₀ labels₁ labels₂ e _ (m .mid .opened-is) (labels-more b k) (m .labels-are)
-                (put-value b labels₁ labels₂ e v (numberAt s (at + 4)) n p);
-            levels-are = element-put b (levels (tagsBefore s i)) _ levels₀ levels₁ levels₂ e _ (levels-count 0 (tagsBefore s i) ∙ m .mid .opened-is)
-                (levels-more b k) (m .levels-are) q;
-          }
+    -- The tag in hand, taken with no fault.
+    module _ (on : at < length s) (t : TakenTag) (is : t ≡ tagTaken s at d e) (z : t .fault ≡ 0) where
+      ne : at ≡ length s → ⊥
+      ne q = omega arith
+
+      fine : recordFault s at d e ≡ 0
+      fine = sym (taken-number s at d e t is) ∙ z
+
+      kind-is : (b : Bool) → t .opening ≡ b → eqb (kindAt s at) 1 ≡ b
+      kind-is b o = sym (taken-tag s at d e t is z .0) ∙ o
+
+      -- An opening has 6 bytes.
+      six : t .opening ≡ true → at + 2 + numberAt s at ≡ at + 6
+      six o = omega (arith, opens-size s at d e fine (kind-is true o))
+
+      pub opening-within : t .opening ≡ true → at + 6 ≤ length s
+      opening-within o = omega (arith, report-next s (m .mid) fine, six o)
+
+      -- A closing has 4, and finds an element open.
+      four : t .opening ≡ false → at + 2 + numberAt s at ≡ at + 4
+      four o = omega (arith, closes-size s at d e fine (kind-is false o))
+
+      pub closing-within : t .opening ≡ false → (at + 4 ≤ length s) × (0 < d)
+      closing-within o = (omega (arith, report-next s (m .mid) fine, four o), report-open s (m .mid) ne fine (kind-is false o))
+
+      -- One turn: what the tag puts into the columns, and the reader's turn.
+      module _ {labels₂ levels₂ : List ℕ} (p : labels₂ ≡ cond (t .opening) (set labels₁ e (t .label)) labels₁) (q : levels₂ ≡ cond (t .opening) (set levels₁ e d) levels₁) where
+        walk-turn : {at′ d′ e′ : ℕ} → ReportMid s (i + 1) at′ d′ e′ → WalkMid s labels₀ levels₀ labels₂ levels₂ (i + 1) at′ d′ e′
+        walk-turn next =
+            let k = kind-is (t .opening) refl in
+            record {
+              mid = next;
+              labels-are = element-put (t .opening) (labels (tagsBefore s i)) _ labels₀ labels₁ labels₂ e _ (m .mid .opened-is) (labels-more ne fine (t .opening) k) (m .labels-are)
+                  (put-value (t .opening) labels₁ labels₂ e (t .label) (numberAt s (at + 4)) (taken-tag s at d e t is z .1) p);
+              levels-are = element-put (t .opening) (levels (tagsBefore s i)) _ levels₀ levels₁ levels₂ e _ (levels-count 0 (tagsBefore s i) ∙ m .mid .opened-is)
+                  (levels-more ne fine (t .opening) k) (m .levels-are) q;
+            }
+
+        pub walk-opens : t .opening ≡ true → WalkMid s labels₀ levels₀ labels₂ levels₂ (i + 1) (at + 6) (d + 1) (e + 1)
+        walk-opens o = walk-turn (moved (at + 6) (six o) (report-opens s (m .mid) ne fine (kind-is true o)))
+
+        pub walk-closes : t .opening ≡ false → WalkMid s labels₀ levels₀ labels₂ levels₂ (i + 1) (at + 4) (d - 1) e
+        walk-closes o = walk-turn (moved (at + 4) (four o) (report-closes s (m .mid) ne fine (kind-is false o)))
 
     module _ (some : 1 ≤ length s) (few : length s ≤ reportMost) where
       read-is : lastRecord s ≡ i → tagsRead s ≡ tagsBefore s i
@@ -114,29 +136,41 @@ module _ (s labels₀ levels₀ : List ℕ) where
       read-is q = rw (le-ltb (length s) 1 some, le-ltb reportMost (length s) few, q)
 
       -- Where the walk stops, the columns hold the elements of all tags read.
-      held-at : lastRecord s ≡ i → (labels₁ ≡ over (labels (tagsRead s)) labels₀) × (levels₁ ≡ over (levels (tagsRead s)) levels₀)
-      held-at q = rw (read-is q) (m .labels-are, m .levels-are)
+      stopped : lastRecord s ≡ i → {r : Answer} → r ≡ reportAnswer s → ElementsTaken s labels₀ levels₀ r labels₁ levels₁
+      stopped q a = record { answer = a; labels-are = rw (read-is q) (m .labels-are); levels-are = rw (read-is q) (m .levels-are) }
 
-      pub walk-ended : at ≡ length s → (labels₁ ≡ over (labels (tagsRead s)) labels₀) × (levels₁ ≡ over (levels (tagsRead s)) levels₀)
+      -- It stops where the report ends ..
+      pub walk-ended : length s ≤ at → {r : Answer} → r ≡ endOf (length s) d e → ElementsTaken s labels₀ levels₀ r labels₁ levels₁
       unfolding reportStops
-      walk-ended q =
-          held-at (mid-ended s (reportFault s) (m .mid .mid) q (length s) (omega (arith, m .mid .mid .slow, m .mid .mid .within)))
+      walk-ended o a =
+          let q : at ≡ length s = omega (arith, m .mid .mid .within) in
+          stopped (mid-ended s (reportFault s) (m .mid .mid) q (length s) (omega (arith, m .mid .mid .slow)))
+          (a ∙ report-ends s (m .mid) some few q)
 
-      pub walk-refused : (at ≡ length s → ⊥) → (recordFault s at d e ≡ 0 → ⊥)
-          → (labels₁ ≡ over (labels (tagsRead s)) labels₀) × (levels₁ ≡ over (levels (tagsRead s)) levels₀)
+      -- .. or at a record that has a fault.
+      pub walk-refused : at < length s → (t : TakenTag) → t ≡ tagTaken s at d e → (t .fault ≡ 0 → ⊥)
+          → ElementsTaken s labels₀ levels₀ (Refused (t .fault) at) labels₁ levels₁
       unfolding reportStops
-      walk-refused ne f =
-          held-at
-          (mid-faulty s (reportFault s) (m .mid .mid) ne (λ z. f (sym (fault-is s (m .mid)) ∙ z)) (length s) (omega (arith, m .mid .mid .slow, m .mid .mid .within)))
+      walk-refused on t is n =
+          let f = taken-number s at d e t is in
+          let ne : (at ≡ length s → ⊥) = λ q. omega arith in
+          let wrong : (recordFault s at d e ≡ 0 → ⊥) = λ z. n (f ∙ z) in
+          stopped
+          (mid-faulty s (reportFault s) (m .mid .mid) ne (λ z. wrong (sym (fault-is s (m .mid)) ∙ z)) (length s) (omega (arith, m .mid .mid .slow)))
+          (ap (λ (k : ℕ). Refused k at) f ∙ report-refuses s (m .mid) some few ne wrong)
 
--- Nothing is read of a report of no byte, or of too many.
-pub read-empty : (s lent : List ℕ) → length s < 1 → (lent ≡ over (labels (tagsRead s)) lent) × (lent ≡ over (levels (tagsRead s)) lent)
-unfolding tagsRead labels levelsFrom
-read-empty s lent h = rw (lt-ltb (length s) 1 h) (sym (over-none lent), sym (over-none lent))
+  -- Where nothing is read the columns stay: a report of no byte, or of too many.
+  kept : tagsRead s ≡ [] → Refused 5 0 ≡ reportAnswer s → ElementsTaken s labels₀ levels₀ (Refused 5 0) labels₀ levels₀
+  unfolding labels levelsFrom
+  kept e a = record { answer = a; labels-are = rw e (sym (over-none labels₀)); levels-are = rw e (sym (over-none levels₀)) }
 
-pub read-long : (s lent : List ℕ) → reportMost < length s → (lent ≡ over (labels (tagsRead s)) lent) × (lent ≡ over (levels (tagsRead s)) lent)
-unfolding tagsRead labels levelsFrom
-read-long s lent h = rw (le-ltb (length s) 1 (omega arith), lt-ltb reportMost (length s) h) (sym (over-none lent), sym (over-none lent))
+  pub read-empty : length s < 1 → ElementsTaken s labels₀ levels₀ (Refused 5 0) labels₀ levels₀
+  unfolding tagsRead
+  read-empty h = kept (rw (lt-ltb (length s) 1 h)) (report-empty s h)
+
+  pub read-long : reportMost < length s → ElementsTaken s labels₀ levels₀ (Refused 5 0) labels₀ levels₀
+  unfolding tagsRead
+  read-long h = kept (rw (le-ltb (length s) 1 (omega arith), lt-ltb reportMost (length s) h)) (report-long s h)
 
 -- The tags read of an accepted report are its tags.
 read-all : (s : List ℕ) → Accepts (reportAnswer s) → tagsRead s ≡ tagsOf s

@@ -1,141 +1,26 @@
--- Laws of the report reader's definitions: one for each way through a record's tests, and the reader's progress.
+-- Laws of the report reader's progress from record to record, and of what it answers.
 -- Assumes nothing.
-use Prim.Native.Nat.{ℕ, zero, suc, _+_, _-_, _≤_, _<_}
+use Prim.Native.Nat.{ℕ, _+_, _-_, _≤_, _<_}
 use native.Mathlib.Omega.{arith}
 use native.Mathlib.Numerals.{add-one, sub-one}
-use borrow.Author.Tests.{lt-ltb, le-ltb, eq-eqb, ne-eqb, leb-false}
+use borrow.Author.Tests.{lt-ltb, le-ltb, eq-eqb, ne-eqb}
 use mathlib.Core.Path.{_≡_, refl, sym, ap, _∙_}
-use mathlib.Core.Bool.{Bool, true, false, cond, _||_, _&&_}
+use mathlib.Core.Bool.{true, false, _&&_}
 use mathlib.Core.List.{List, [], _∷_, _++_}
-use lib.Dec.{leb, ltb, eqb}
+use lib.Dec.{ltb, eqb}
 use lib.ListN.{length, length-append}
 use Rattle.numbers.specs.Bytes.{numberAt}
 use Rattle.numbers.specs.First.{first}
-use Rattle.terms.specs.Frame.{frameOf, kindAt, broken}
-use Rattle.reports.specs.Tags.{Tag, opens, closes, depthFrom, depth, labels, openedCount, tagFault}
-use Rattle.reports.specs.Report.{reportLength, tagAt, tagsBefore, recordFault, reportFault, reportStops, endOf, reportAnswerAt, reportAnswer}
+use Rattle.terms.specs.Frame.{kindAt}
+use Rattle.tag.specs.Tags.{Tag, opens, closes, depthFrom, depth, labels, openedCount, tagFault, endOf}
+use Rattle.tag.specs.Record.{tagAt, recordFault}
+use Rattle.reports.specs.Report.{tagsBefore, reportFault, reportStops, reportAnswerAt, reportAnswer}
 use Rattle.terms.specs.declared.answer.Answer.the-variants.{Refused}
-use Rattle.terms.specs.declared.frame.Frame.{Frame}
-use Rattle.terms.specs.declared.frame.Frame.the-variants.{Whole, Cut, Garbled}
-use Rattle.reports.proofs.TagLaws.{depth-append, labels-append}
+use Rattle.tag.proofs.TagLaws.{depth-append, labels-append}
+use Rattle.tag.proofs.RecordLaws.{tag-opens, tag-closes, record-sound, open-sound, close-sound}
 use Rattle.terms.proofs.Reading.{Mid, mid-start, mid-turn, mid-ended, mid-faulty}
-use Rattle.terms.proofs.FrameLaws.{Stands, frame-few, frame-unknown, frame-wrong, frame-past, frame-whole, whole-stands}
-use Rattle.terms.specs.Limits.{elementsMost, levelsMost, reportMost, outside}
+use Rattle.terms.specs.Limits.{elementsMost, levelsMost, reportMost}
 use Rattle.numbers.specs.Lists.{listed}
-
--- ---- one record
-
-module _ (s : List ℕ) (at : ℕ) where
-  -- Which tag stands there goes by the kind.
-  pub tag-opens : eqb (kindAt s at) 1 ≡ true → tagAt s at ≡ opens (numberAt s (at + 4))
-  unfolding tagAt
-  tag-opens e = rw e
-
-  pub tag-closes : eqb (kindAt s at) 1 ≡ false → tagAt s at ≡ closes
-  unfolding tagAt
-  tag-closes e = rw e
-
-  -- The length of each kind's record.
-  pub length-opens : kindAt s at ≡ 1 → reportLength (kindAt s at) ≡ 4
-  unfolding reportLength
-  length-opens k = ap reportLength k
-
-  pub length-closes : kindAt s at ≡ 2 → reportLength (kindAt s at) ≡ 2
-  unfolding reportLength
-  length-closes k = ap reportLength k
-
-  pub length-none : (kindAt s at ≡ 1 → ⊥) → (kindAt s at ≡ 2 → ⊥) → reportLength (kindAt s at) ≡ 0
-  unfolding reportLength
-  length-none k l = rw (ne-eqb (kindAt s at) 1 k, ne-eqb (kindAt s at) 2 l)
-
-  -- A whole opening has room for its label.
-  pub label-room : Stands s at (reportLength (kindAt s at)) → kindAt s at ≡ 1 → at + 6 ≤ length s
-  unfolding reportLength
-  label-room st e = omega (arith, st .ends, four)
-    where
-      four : reportLength (kindAt s at) ≡ 4
-      four = rw (eq-eqb (kindAt s at) 1 e)
-
-  module _ (depth elements : ℕ) where
-    -- Fewer than 4 bytes left.
-    pub record-few : length s < at + 4 → 6 ≡ recordFault s at depth elements
-    unfolding recordFault
-    record-few h = simp (frame-few s at (reportLength (kindAt s at)) h)
-
-    -- The record is not whole.
-    pub record-broken : (f : Frame) → f ≡ frameOf s at (reportLength (kindAt s at)) → broken f ≡ true → 6 ≡ recordFault s at depth elements
-    unfolding recordFault
-    record-broken f e b = simp (sym e, b)
-
-    -- The record is whole: its tag decides.
-    pub record-whole : Whole ≡ frameOf s at (reportLength (kindAt s at))
-        → tagFault depth elements (eqb depth 0 && ltb 0 elements) (tagAt s at) ≡ recordFault s at depth elements
-    unfolding recordFault
-    record-whole e = rw (← e)
-
-    -- The same by the length that the record's kind has: no such kind, another length, past the end, none of these.
-    module _ (n : ℕ) (is : reportLength (kindAt s at) ≡ n) (room : at + 4 ≤ length s) where
-      frame-by : (f : Frame) → frameOf s at n ≡ f → f ≡ frameOf s at (reportLength (kindAt s at))
-      frame-by f e = sym (ap (frameOf s at) is ∙ e)
-
-      pub record-unknown : n ≡ 0 → 6 ≡ recordFault s at depth elements
-      record-unknown z = record-broken Garbled (frame-by Garbled (frame-unknown s at n room z)) refl
-
-      pub record-wrong : (n ≡ 0 → ⊥) → (numberAt s at ≡ n → ⊥) → 6 ≡ recordFault s at depth elements
-      record-wrong z e = record-broken Garbled (frame-by Garbled (frame-wrong s at n room z e)) refl
-
-      pub record-past : (n ≡ 0 → ⊥) → numberAt s at ≡ n → length s < at + 2 + n → 6 ≡ recordFault s at depth elements
-      record-past z e p = record-broken Cut (frame-by Cut (frame-past s at n room z e p)) refl
-
-      pub record-fits : (n ≡ 0 → ⊥) → numberAt s at ≡ n → at + 2 + n ≤ length s
-          → tagFault depth elements (eqb depth 0 && ltb 0 elements) (tagAt s at) ≡ recordFault s at depth elements
-      record-fits z e p = record-whole (frame-by Whole (frame-whole s at n room z e p))
-
-    -- A whole opening, and a whole closing: what the tag is answered.
-    pub record-opens : kindAt s at ≡ 1 → at + 4 ≤ length s → numberAt s at ≡ 4 → at + 6 ≤ length s → (l r : ℕ) → l ≡ numberAt s (at + 4)
-        → r ≡ tagFault depth elements (eqb depth 0 && ltb 0 elements) (opens l) → r ≡ recordFault s at depth elements
-    record-opens k room e p l r q f =
-        f ∙ ap (tagFault depth elements (eqb depth 0 && ltb 0 elements)) (ap opens q ∙ sym (tag-opens (eq-eqb (kindAt s at) 1 k)))
-        ∙ record-fits 4 (length-opens k) room (λ z. omega arith) e (omega arith)
-
-    pub record-closes : kindAt s at ≡ 2 → at + 4 ≤ length s → numberAt s at ≡ 2 → (r : ℕ) → r ≡ tagFault depth 0 false closes
-        → r ≡ recordFault s at depth elements
-    unfolding tagFault
-    record-closes k room e r f =
-        f ∙ ap (tagFault depth elements (eqb depth 0 && ltb 0 elements)) (sym (tag-closes (ne-eqb (kindAt s at) 1 (λ z. omega arith))))
-        ∙ record-fits 2 (length-closes k) room (λ z. omega arith) e (omega arith)
-
-    -- A record with no fault is whole, and its tag has none.
-    pub record-sound : recordFault s at depth elements ≡ 0
-        → Stands s at (reportLength (kindAt s at)) × (tagFault depth elements (eqb depth 0 && ltb 0 elements) (tagAt s at) ≡ 0)
-    unfolding recordFault
-    record-sound e = go (frameOf s at (reportLength (kindAt s at))) refl e
-      where
-        go : (f : Frame) → frameOf s at (reportLength (kindAt s at)) ≡ f
-            → cond (broken f) 6 (tagFault depth elements (eqb depth 0 && ltb 0 elements) (tagAt s at)) ≡ 0
-            → Stands s at (reportLength (kindAt s at)) × (tagFault depth elements (eqb depth 0 && ltb 0 elements) (tagAt s at) ≡ 0)
-        go Whole q z = (whole-stands s at (reportLength (kindAt s at)) q, z)
-        go Cut q z = absurd (omega arith)
-        go Garbled q z = absurd (omega arith)
-
--- An opening with no fault stays within the limits; a closing with none finds an element open.
-pub open-sound : (d e l : ℕ) (c : Bool) → tagFault d e c (opens l) ≡ 0 → (d < levelsMost) × (e < elementsMost)
-unfolding tagFault
-open-sound d e l c z = go (outside l) c (leb levelsMost d) (leb elementsMost e) refl refl z
-  where
-    go : (o q p r : Bool) → leb levelsMost d ≡ p → leb elementsMost e ≡ r → _≡_ {A = ℕ} (cond o 6 (cond q 7 (cond (p || r) 8 0))) 0 → (d < levelsMost) × (e < elementsMost)
-    go true q p r a b z = absurd (omega arith)
-    go false true p r a b z = absurd (omega arith)
-    go false false true r a b z = absurd (omega arith)
-    go false false false true a b z = absurd (omega arith)
-    go false false false false a b z = (leb-false levelsMost d a, leb-false elementsMost e b)
-
-pub close-sound : (d e : ℕ) (c : Bool) → tagFault d e c closes ≡ 0 → 0 < d
-unfolding tagFault
-close-sound zero e c z = absurd (omega arith)
-close-sound (suc d) e c z = omega arith
-
--- ---- the turns of the reader's loop
 
 -- Between two turns: record i begins at the offset, and the counters tell what the tags before it leave open and have opened.
 pub record ReportMid (s : List ℕ) (i at d e : ℕ) : Type 0 where

@@ -6,7 +6,7 @@ use mathlib.Core.Bool.{cond}
 use mathlib.Core.List.{List, []}
 use Rattle.terms.specs.Answer.{whereAccepted}
 use Rattle.reports.specs.Report.{reportAnswer, tagsOf}
-use Rattle.reports.specs.Tags.{Tag, labels, levels}
+use Rattle.tag.specs.Tags.{Tag, labels, levels}
 use Rattle.terms.specs.declared.answer.Answer.{Answer}
 use Rattle.terms.specs.Limits.{reportMost, missized}
 use Rattle.numbers.specs.Lists.{over}

@@ -1,4 +1,3 @@
--- Tags, what a report is answered, and the elements that it holds.
-pub mod Tags
+-- What a report is answered, and the elements that it holds.
 pub mod Report
 pub mod Elements

@@ -4,11 +4,10 @@ ghost use mathlib.Core.Path.{_≡_};
 ghost use mathlib.Core.Bool.{cond};
 ghost use Prim.Native.Nat.{_<_};
 ghost use lib.ListN.{set};
+ghost use Rattle.reports.specs.Report.{reportAnswer};
 ghost use Rattle.reports.specs.Elements.{ElementsTaken};
-use crate::number::number_where;
-use crate::report::end_of;
-use crate::report::opens_at;
-use crate::report::record_fault;
+use tag::tag::end_of;
+use tag::tag::take_tag;
 use terms::answer::Answer;
 use terms::limits::REPORT_MOST;
 
@@ -56,30 +55,34 @@ pub fn read_elements(report: &[u8], labels: &mut [u16], levels: &mut [u16]) -> A
     let mut depth: usize = 0;
     let mut elements: usize = 0;
     let answer = loop {
-        if at == report.len() {
+        // At the end; not `==`, so that the compiler knows of every record taken that it begins before it.
+        if report.len() <= at {
             break end_of(report.len(), depth, elements);
         }
-        let fault = record_fault(report, at, depth, elements);
-        if fault != 0 {
-            break Answer::Refused(fault, at);
+        let taken = take_tag(report, at, depth, elements);
+        if taken.fault != 0 {
+            break Answer::Refused(taken.fault, at);
         }
-        let opens = opens_at(report, at);
-        put_opened(
-            opens,
-            elements,
-            number_where(report, at + 4, opens),
-            depth,
-            labels,
-            levels,
-        );
-        if opens {
-            depth = depth + 1;
-            elements = elements + 1;
+        put_opened(taken.opening, elements, taken.label, depth, labels, levels);
+        // The offset first: the next record waits for it alone, and what stands last in both branches the
+        // compiler merges into one sum that waits for the branch.
+        if taken.opening {
             at = at + 6;
+            elements = elements + 1;
+            depth = depth + 1;
         } else {
-            depth = depth - 1;
             at = at + 4;
+            depth = depth - 1;
         }
     };
     answer
+}
+
+// Reads a report: accepted with the number of its elements, or refused. No column is wanted.
+pub fn read_report(report: &[u8]) -> Answer
+    ensures { λ r. ⌜ r ≡ reportAnswer (now (report .entry)) ⌝ }
+{
+    let mut labels = [0u16; 0];
+    let mut levels = [0u16; 0];
+    read_elements(report, &mut labels, &mut levels)
 }

@@ -10,15 +10,17 @@ use lib.ListN.{length, set, length-append}
 use Rattle.terms.specs.Answer.{countOf}
 use Rattle.numbers.specs.First.{first}
 use Rattle.terms.specs.Frame.{startOf}
-use Rattle.rules.specs.Rule.{entryAt, ruleAnswer, ruleFault, ruleFaults, ruleStops, ruleAnswerAt, takenAt}
+use Rattle.entry.specs.Entry.{entryAt, ruleFault, takenAt}
+use Rattle.rules.specs.Rule.{ruleAnswer, ruleFaults, ruleStops, ruleAnswerAt}
 use Rattle.terms.specs.declared.answer.Answer.{Answer}
 use Rattle.terms.specs.declared.answer.Answer.the-variants.{Accepted, Refused}
-use Rattle.rules.specs.declared.rule.Entry.{Entry}
+use Rattle.entry.specs.declared.entry.Entry.{Entry}
 use borrow.Author.Tests.{lt-ltb, le-ltb}
 use lib.Dec.{ltb, eqb}
-use Rattle.rules.specs.declared.rule.Taken.{Taken}
+use Rattle.entry.specs.declared.entry.Taken.{Taken}
 use Rattle.terms.proofs.Reading.{mid-start, mid-ended, mid-faulty, mid-reached}
-use Rattle.rules.proofs.RuleLaws.{RuleMid, rule-accepts, rule-refuses, taken-fault, rule-sound}
+use Rattle.entry.proofs.TakenLaws.{rule-sound, taken-fault}
+use Rattle.rules.proofs.RuleLaws.{RuleMid, rule-accepts, rule-refuses}
 use Rattle.terms.specs.Limits.{entriesMost, ruleMost}
 use Rattle.numbers.proofs.First.{first-le, first-before}
 use Rattle.rules.specs.Entries.{entriesBefore, entriesOf, entriesRead, flat, EntriesTaken}

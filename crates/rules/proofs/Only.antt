@@ -4,18 +4,13 @@ use Rattle.numbers.proofs.Only.{only}
 use Prim.Native.Nat.{ℕ}
 use mathlib.Core.Path.{_≡_}
 use mathlib.Core.List.{List}
-use Rattle.rules.specs.Rule.{ruleAnswer, takenAt}
+use Rattle.rules.specs.Rule.{ruleAnswer}
 use Rattle.terms.specs.declared.answer.Answer.{Answer}
-use Rattle.rules.specs.declared.rule.Taken.{Taken}
 use Rattle.rules.specs.Entries.{EntriesTaken}
 
 -- What the rule reader answers.
 pub read-rule-only : (s : List ℕ) {r r′ : Answer} → r ≡ ruleAnswer s → r′ ≡ ruleAnswer s → r ≡ r′
 read-rule-only s p q = only p q
-
--- What the record at an offset is taken for.
-pub take-entry-only : (s : List ℕ) (own at : ℕ) {r r′ : Taken} → r ≡ takenAt s own at → r′ ≡ takenAt s own at → r ≡ r′
-take-entry-only s own at p q = only p q
 
 -- What reading the entries answers and leaves in the table.
 pub read-entries-only : (s table : List ℕ) {r r′ : Answer} {t t′ : List ℕ} → EntriesTaken s table r t → EntriesTaken s table r′ t′ → (r ≡ r′) × (t ≡ t′)

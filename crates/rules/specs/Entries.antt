@@ -7,9 +7,10 @@ use mathlib.Core.List.{List, [], _∷_}
 use Rattle.terms.specs.Answer.{countOf}
 use Rattle.numbers.specs.First.{first}
 use Rattle.terms.specs.Frame.{startOf}
-use Rattle.rules.specs.Rule.{entryAt, ruleStops, ruleAnswer}
+use Rattle.entry.specs.Entry.{entryAt}
+use Rattle.rules.specs.Rule.{ruleStops, ruleAnswer}
 use Rattle.terms.specs.declared.answer.Answer.{Answer}
-use Rattle.rules.specs.declared.rule.Entry.{Entry}
+use Rattle.entry.specs.declared.entry.Entry.{Entry}
 use Rattle.terms.specs.Limits.{ruleMost, entriesMost, missized}
 use Rattle.numbers.specs.Lists.{listed, over}
 

@@ -1,5 +1,2 @@
-// Rules: one record as an entry, and the walk that checks a whole rule and fills the table of its entries.
-mod frame;
-mod number;
-pub mod rule;
+// Rules: the walk that checks a whole rule and fills the table of its entries.
 pub mod table;

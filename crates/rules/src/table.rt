@@ -4,8 +4,9 @@ ghost use mathlib.Core.Path.{_≡_};
 ghost use Prim.Native.Nat.{_+_, _*_, _<_};
 ghost use lib.ListN.{set};
 ghost use Rattle.terms.specs.Limits.{entriesMost};
+ghost use Rattle.rules.specs.Rule.{ruleAnswer};
 ghost use Rattle.rules.specs.Entries.{EntriesTaken};
-use crate::rule::take_entry;
+use entry::entry::take_entry;
 use terms::answer::Answer;
 use terms::limits::RULE_MOST;
 
@@ -48,4 +49,12 @@ pub fn read_entries(rule: &[u8], table: &mut [u16; ENTRY_PLACES]) -> Answer
         n = n + 1;
     };
     answer
+}
+
+// Reads a rule: accepted with the number of its entries, or refused. The table is not wanted.
+pub fn read_rule(rule: &[u8]) -> Answer
+    ensures { λ r. ⌜ r ≡ ruleAnswer (now (rule .entry)) ⌝ }
+{
+    let mut table = [0u16; ENTRY_PLACES];
+    read_entries(rule, &mut table)
 }

@@ -7,7 +7,7 @@ use mathlib.Core.List.{List, [], _∷_, _++_, append-nil}
 use lib.ListN.{length, length-append}
 use lib.Seq.{length-sets}
 use Rattle.numbers.specs.Lists.{putAt}
-use Rattle.rules.specs.declared.rule.Entry.{Entry}
+use Rattle.entry.specs.declared.entry.Entry.{Entry}
 use Rattle.grammar.specs.Rules.{recordOf, ruleBytes}
 use Rattle.text.proofs.PutLaws.{put-none, put-then, put-as}
 use Rattle.spell.specs.declared.own.Written.{Written}

@@ -5,7 +5,7 @@ use mathlib.Core.Path.{_≡_, sym, ap, _∙_}
 use mathlib.Core.List.{List}
 use lib.ListN.{length}
 use lib.Seq.{length-sets}
-use Rattle.rules.specs.declared.rule.Entry.{Entry}
+use Rattle.entry.specs.declared.entry.Entry.{Entry}
 use Rattle.grammar.specs.Rules.{ruleBytes}
 use Rattle.paths.specs.Translation.{lastOf}
 use Rattle.spell.specs.declared.own.Written.{Written}

@@ -8,7 +8,7 @@ use mathlib.Core.Logic.{_⊎_}
 use lib.Dec.{leb}
 use lib.ListN.{length, length-append}
 use Rattle.numbers.proofs.Tells.{IsTest, true-iff, leb-tests, or-tests, and-tests}
-use Rattle.rules.specs.declared.rule.Entry.{Entry}
+use Rattle.entry.specs.declared.entry.Entry.{Entry}
 use Rattle.grammar.specs.Rules.{ruleBytes}
 use Rattle.grammar.proofs.Rules.{rule-append}
 use Rattle.text.proofs.PutLaws.{put-then, put-as}

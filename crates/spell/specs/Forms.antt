@@ -19,7 +19,7 @@ use Prim.Native.Nat.{ℕ, pred, _+_, _-_, _*_, _/_}
 use mathlib.Core.Bool.{cond, _||_}
 use mathlib.Core.List.{List, [], _∷_}
 use lib.Dec.{leb, eqb}
-use Rattle.rules.specs.declared.rule.Entry.{Entry}
+use Rattle.entry.specs.declared.entry.Entry.{Entry}
 use Rattle.paths.specs.Translation.{entry}
 
 -- The own entries of AXIS*,

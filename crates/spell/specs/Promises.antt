@@ -9,7 +9,7 @@ use mathlib.Core.Bool.{Bool, cond, _||_, _&&_}
 use mathlib.Core.List.{List, []}
 use lib.Dec.{leb}
 use lib.ListN.{length}
-use Rattle.rules.specs.declared.rule.Entry.{Entry}
+use Rattle.entry.specs.declared.entry.Entry.{Entry}
 use Rattle.grammar.specs.Rules.{bodyOf, ruleBytes}
 use Rattle.text.specs.Rendered.{Put}
 use Rattle.paths.specs.Translation.{entry}

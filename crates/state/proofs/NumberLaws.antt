@@ -7,10 +7,10 @@ use mathlib.Core.Bool.{Bool, true, false, cond, _||_}
 use mathlib.Core.List.{List}
 use lib.Dec.{leb}
 use lib.ListN.{length, replicate}
-use Rattle.rules.specs.declared.rule.Entry.{Entry}
+use Rattle.entry.specs.declared.entry.Entry.{Entry}
 use Rattle.terms.specs.Limits.{elementsMost, levelsMost, outside}
-use Rattle.reports.specs.Tags.{Tag, opens, closes, tagFault}
-use Rattle.reports.proofs.ReportLaws.{open-sound, close-sound}
+use Rattle.tag.specs.Tags.{Tag, opens, closes, tagFault}
+use Rattle.tag.proofs.RecordLaws.{open-sound, close-sound}
 use Rattle.meaning.specs.OnePass.{fault, stepWord, openedWord}
 use Rattle.state.specs.Promises.{readable, parentIn, siblingIn, WordsRead, startNumber, stateNumber, StateStarted, StateOpened, StateClosed}
 use Rattle.state.specs.State.{stateSize, depthIn, elementsIn, rootIn, stateOf, bad, Good}

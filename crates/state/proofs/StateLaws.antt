@@ -10,7 +10,7 @@ use mathlib.Core.Bool.{Bool, true, false, cond}
 use mathlib.Core.List.{List}
 use lib.Dec.{eqb, ltb}
 use lib.ListN.{length, getD, set, replicate, length-replicate}
-use Rattle.rules.specs.declared.rule.Entry.{Entry}
+use Rattle.entry.specs.declared.entry.Entry.{Entry}
 use Rattle.terms.specs.Limits.{elementsMost, levelsMost}
 use Rattle.numbers.specs.Bytes.{Bytes, wordAt}
 use Rattle.meaning.specs.OnePass.{State, fresh, parentWord, siblingWord}

@@ -11,9 +11,9 @@ use mathlib.Core.List.{List}
 use lib.Dec.{eqb}
 use lib.ListN.{length, getD}
 use lib.Pow.{pow-mono}
-use Rattle.rules.specs.declared.rule.Entry.{Entry}
+use Rattle.entry.specs.declared.entry.Entry.{Entry}
 use Rattle.terms.specs.Limits.{elementsMost, levelsMost}
-use Rattle.reports.specs.Tags.{Tag, opens, closes}
+use Rattle.tag.specs.Tags.{Tag, opens, closes}
 use Rattle.numbers.specs.Bytes.{Bytes, wordAt}
 use Rattle.meaning.specs.OnePass.{State, fault, openedWord, opened, closed, after}
 use Rattle.meaning.proofs.StepTable.{step-small}

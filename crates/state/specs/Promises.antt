@@ -9,7 +9,7 @@ use mathlib.Core.List.{List}
 use lib.Dec.{eqb, ltb}
 use lib.ListN.{length}
 use Rattle.terms.specs.Limits.{levelsMost}
-use Rattle.reports.specs.Tags.{Tag, opens, closes}
+use Rattle.tag.specs.Tags.{Tag, opens, closes}
 use Rattle.meaning.specs.OnePass.{fault}
 use Rattle.state.specs.State.{stateSize, depthIn, presenceIn, openPlace, lastPlace, stateOf, bad}
 use Rattle.state.specs.Stores.{startAfter, opening, closing}

@@ -6,8 +6,8 @@ use mathlib.Core.Bool.{true, false, cond}
 use mathlib.Core.List.{List, [], _∷_}
 use lib.Dec.{eqb, ltb}
 use lib.ListN.{length, replicate}
-use Rattle.rules.specs.declared.rule.Entry.{Entry}
-use Rattle.reports.specs.Tags.{Tag, opens, closes}
+use Rattle.entry.specs.declared.entry.Entry.{Entry}
+use Rattle.tag.specs.Tags.{Tag, opens, closes}
 use Rattle.meaning.specs.OnePass.{openedWord}
 use Rattle.state.specs.Layout.{Store, stored}
 use Rattle.state.specs.State.{stateSize, depthIn, elementsIn, rootIn, presenceIn, openPlace, layout, stateOf}

@@ -13,8 +13,8 @@ use crate::fields::parent_word;
 use crate::fields::sibling_word;
 use crate::fields::store_closing;
 use crate::fields::store_opening;
-use reports::report::close_fault;
-use reports::report::open_fault;
+use tag::tag::close_fault;
+use tag::tag::open_fault;
 use terms::limits::LEVELS_MOST;
 
 // The words of the parent and of the previous sibling that an opening reads.

@@ -14,7 +14,7 @@ use Rattle.numbers.proofs.Lists.{over-none}
 use Rattle.terms.specs.declared.answer.Answer.{Answer}
 use Rattle.terms.specs.declared.answer.Answer.the-variants.{Accepted, Refused}
 use Rattle.terms.specs.Kinds.{rowOf}
-use Rattle.rules.specs.declared.rule.Entry.{Entry}
+use Rattle.entry.specs.declared.entry.Entry.{Entry}
 use Rattle.numbers.specs.Bytes.{twoBytes}
 use Rattle.grammar.specs.Rules.{bodyOf, recordOf, ruleBytes}
 use Rattle.grammar.specs.When.{Sized}

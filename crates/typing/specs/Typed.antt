@@ -9,7 +9,7 @@ use lib.ListN.{length}
 use Rattle.numbers.specs.Lists.{over}
 use Rattle.terms.specs.Answer.{numberOf, placeOf, whereAccepted}
 use Rattle.terms.specs.declared.answer.Answer.{Answer}
-use Rattle.rules.specs.declared.rule.Entry.{Entry}
+use Rattle.entry.specs.declared.entry.Entry.{Entry}
 use Rattle.grammar.specs.Rules.{ruleBytes}
 use Rattle.paths.specs.Answer.{TextGets, pathOutcome, bytesGiven}
 use Rattle.typing.specs.declared.export.PathReply.{PathReply}

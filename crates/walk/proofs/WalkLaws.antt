@@ -9,10 +9,11 @@ use lib.ListN.{length}
 use Rattle.terms.specs.declared.answer.Answer.{Answer}
 use Rattle.terms.specs.declared.answer.Answer.the-variants.{Accepted, Refused}
 use Rattle.terms.specs.declared.kind.Shape.{Shape}
-use Rattle.rules.specs.declared.rule.Entry.{Entry}
+use Rattle.entry.specs.declared.entry.Entry.{Entry}
 use Rattle.terms.specs.Kinds.{looksBack, shapeLooksBack, shapeOf}
 use Rattle.terms.specs.Limits.{entriesMost}
-use Rattle.rules.specs.Rule.{entryAt, ruleAnswer}
+use Rattle.entry.specs.Entry.{entryAt}
+use Rattle.rules.specs.Rule.{ruleAnswer}
 use Rattle.rules.proofs.RuleLaws.{RuleMid}
 use Rattle.meaning.specs.OnePass.{LooksBack, stepBit, stepWord}
 use Rattle.meaning.proofs.StepTable.{step-last}

@@ -8,7 +8,7 @@ use mathlib.Core.Bool.{Bool, false, not, _||_}
 use mathlib.Core.List.{List, [], _∷_}
 use lib.ListN.{length}
 use Rattle.terms.specs.declared.answer.Answer.the-variants.{Refused}
-use Rattle.rules.specs.declared.rule.Entry.{Entry}
+use Rattle.entry.specs.declared.entry.Entry.{Entry}
 use Rattle.terms.specs.Kinds.{looksBack}
 use Rattle.rules.specs.Rule.{ruleAnswer}
 use Rattle.meaning.specs.OnePass.{stepWord}

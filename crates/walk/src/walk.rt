@@ -4,7 +4,7 @@ ghost use mathlib.Core.Path.{_≡_};
 ghost use Rattle.walk.specs.Walk.{unreadWalk, Walked, unaskedAhead, Asked};
 use crate::step::step_bit;
 use crate::word::add_bit;
-use rules::rule::take_entry;
+use entry::entry::take_entry;
 use terms::answer::Answer;
 use terms::kind::looks_back;
 use terms::kind::row_of;

@@ -9,9 +9,6 @@ use Rattle.marking.proofs.KindLaws.{table-few, marked-first}
 use borrow.Author.Needs.{needs}
 use Rattle.marking.proofs.elements.mark_elements.Statement.{statement}
 use Rattle.marking.proofs.elements.mark_elements.Tie as tie
-use Rattle.marking.proofs.elements.clear.Reads as clear-reads
-use Rattle.marking.proofs.elements.count_selected.Reads as count-selected-reads
-use Rattle.marking.proofs.entry.mark_entries.Reads as mark-entries-reads
 
 clear-requires : tie.Need-clear-requires
 clear-requires c κs = search needs

@@ -6,12 +6,6 @@ use Rattle.marking.proofs.PassLaws.{passed-same, earlier-in}
 use borrow.Author.Needs.{needs}
 use Rattle.marking.proofs.local.local_pass.Statement.{statement}
 use Rattle.marking.proofs.local.local_pass.Tie as tie
-use Rattle.marking.proofs.local.gate_pass.Reads as gate-pass-reads
-use Rattle.marking.proofs.local.label_pass.Reads as label-pass-reads
-use Rattle.steps.proofs.gate.always_gate.Reads as always-gate-reads
-use Rattle.steps.proofs.gate.and_gate.Reads as and-gate-reads
-use Rattle.steps.proofs.gate.not_gate.Reads as not-gate-reads
-use Rattle.steps.proofs.gate.or_gate.Reads as or-gate-reads
 
 enum-told : tie.Need-enum-told
 enum-told c = search needs

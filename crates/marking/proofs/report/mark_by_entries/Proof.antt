@@ -8,11 +8,6 @@ use Rattle.reports.proofs.ElementLaws.{report-small}
 use borrow.Author.Needs.{needs}
 use Rattle.marking.proofs.report.mark_by_entries.Statement.{statement}
 use Rattle.marking.proofs.report.mark_by_entries.Tie as tie
-use Rattle.layout.proofs.columns.least.Reads as least-reads
-use Rattle.layout.proofs.columns.least_of_four.Reads as least-of-four-reads
-use Rattle.layout.proofs.layout.lay_out.Reads as lay-out-reads
-use Rattle.marking.proofs.elements.mark_elements.Reads as mark-elements-reads
-use Rattle.marking.proofs.report.refuse.Reads as refuse-reads
 
 lay-out-requires : tie.Need-lay-out-requires
 lay-out-requires c κs = search needs

@@ -1,6 +1,6 @@
 use native.Mathlib.Omega.{arith}
 use mathlib.Core.Path.{_≡_, sym, _∙_}
-use Rattle.reports.specs.Tags.{closes, tagFault}
+use Rattle.tag.specs.Tags.{closes, tagFault}
 use Rattle.state.specs.Promises.{stateNumber}
 use Rattle.state.specs.State.{stateOf}
 use Rattle.state.proofs.NumberLaws.{closes-fine, tested-long, number-bad, number-fault, close-refused, close-taken}

@@ -1,6 +1,6 @@
 use native.Mathlib.Omega.{arith}
 use mathlib.Core.Path.{_≡_, sym, _∙_}
-use Rattle.reports.specs.Tags.{opens}
+use Rattle.tag.specs.Tags.{opens}
 use Rattle.state.specs.Promises.{stateNumber}
 use Rattle.state.specs.State.{stateOf}
 use Rattle.state.proofs.NumberLaws.{opens-fine, tested-long, number-bad, number-fault, open-refused, open-taken}

@@ -2,8 +2,6 @@
 use borrow.Author.Needs.{needs}
 use Rattle.steps.proofs.ahead.own_at.Statement.{statement}
 use Rattle.steps.proofs.ahead.own_at.Tie as tie
-use Rattle.steps.proofs.ahead.own_mark.Reads as own-mark-reads
-use Rattle.steps.proofs.word.bit_in.Reads as bit-in-reads
 
 bit-in-requires : tie.Need-bit-in-requires
 bit-in-requires c κs = search needs

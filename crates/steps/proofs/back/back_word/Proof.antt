@@ -3,9 +3,6 @@ use native.Mathlib.Nat.{mod-eq-of-lt}
 use borrow.Author.Needs.{needs}
 use Rattle.steps.proofs.back.back_word.Statement.{statement}
 use Rattle.steps.proofs.back.back_word.Tie as tie
-use Rattle.steps.proofs.back.until_mark.Reads as until-mark-reads
-use Rattle.steps.proofs.word.bit_where.Reads as bit-where-reads
-use Rattle.steps.proofs.word.put_number.Reads as put-number-reads
 
 until-mark-requires : tie.Need-until-mark-requires
 until-mark-requires c κs = search needs

@@ -4,7 +4,6 @@ use Rattle.numbers.proofs.BitLaws.{bit-small}
 use borrow.Author.Needs.{needs}
 use Rattle.steps.proofs.word.put_bit.Statement.{statement}
 use Rattle.steps.proofs.word.put_bit.Tie as tie
-use Rattle.steps.proofs.word.put_number.Reads as put-number-reads
 
 cast-put-number : tie.Need-cast-put-number
 cast-put-number c = search needs
