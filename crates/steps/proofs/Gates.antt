@@ -4,33 +4,51 @@ use mathlib.Core.Path.{_≡_, refl}
 use mathlib.Core.Bool.{Bool, true, false, not, xor, _&&_, _||_}
 use lib.Dec.{eqb}
 use lib.Bits.{bitAnd, bitXor}
-use Rattle.numbers.specs.Bits.{bit}
+use Rattle.numbers.specs.Bits.{bit, bitAt, inWord}
 use Rattle.numbers.proofs.BitLaws.{bit-told}
 use Rattle.numbers.proofs.Masks.{odd-xor, odd-and}
+use Rattle.steps.specs.Steps.{gateMark, alwaysGate, notGate, orGate, andGate}
 
-pub gate-always : (x : Bool) → xor (xor x false && xor x true) true ≡ true
+always-is : (x : Bool) → xor (xor x false && xor x true) true ≡ true
 unfolding xor
-gate-always true = refl
-gate-always false = refl
+always-is true = refl
+always-is false = refl
 
-pub gate-not : (x : Bool) → xor (xor x true && xor x true) false ≡ not x
+not-is : (x : Bool) → xor (xor x true && xor x true) false ≡ not x
 unfolding xor
-gate-not true = refl
-gate-not false = refl
+not-is true = refl
+not-is false = refl
 
-pub gate-or : (x y : Bool) → xor (xor x true && xor y true) true ≡ (x || y)
+or-is : (x y : Bool) → xor (xor x true && xor y true) true ≡ (x || y)
 unfolding xor
-gate-or true true = refl
-gate-or true false = refl
-gate-or false true = refl
-gate-or false false = refl
+or-is true true = refl
+or-is true false = refl
+or-is false true = refl
+or-is false false = refl
 
-pub gate-and : (x y : Bool) → xor (xor x false && xor y false) false ≡ (x && y)
+and-is : (x y : Bool) → xor (xor x false && xor y false) false ≡ (x && y)
 unfolding xor
-gate-and true true = refl
-gate-and true false = refl
-gate-and false true = refl
-gate-and false false = refl
+and-is true true = refl
+and-is true false = refl
+and-is false true = refl
+and-is false false = refl
+
+-- What each gate makes of a word.
+pub gate-always : (w : ℕ) → gateMark alwaysGate w ≡ true
+unfolding gateMark
+gate-always w = always-is _
+
+pub gate-not : (a w : ℕ) → gateMark (notGate a) w ≡ not (bitAt w (inWord a))
+unfolding gateMark
+gate-not a w = not-is _
+
+pub gate-or : (a b w : ℕ) → gateMark (orGate a b) w ≡ (bitAt w (inWord a) || bitAt w (inWord b))
+unfolding gateMark
+gate-or a b w = or-is _ _
+
+pub gate-and : (a b w : ℕ) → gateMark (andGate a b) w ≡ (bitAt w (inWord a) && bitAt w (inWord b))
+unfolding gateMark
+gate-and a b w = and-is _ _
 
 -- The machine's gate, of numbers whose lowest bits are the gate's two.
 pub gate-low : (first second outcome : Bool) (x y : ℕ)

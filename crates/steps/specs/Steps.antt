@@ -3,7 +3,7 @@
 -- Laws: the crate marking says that the marks of a pass are these steps, and that along the columns they are what a kind means.
 -- Assumes nothing.
 use Prim.Native.Nat.{ℕ}
-use mathlib.Core.Bool.{Bool, cond, not, xor, _&&_, _||_}
+use mathlib.Core.Bool.{Bool, true, false, cond, not, xor, _&&_, _||_}
 use mathlib.Core.List.{List}
 use Rattle.terms.specs.declared.kind.Axis.{Axis}
 use Rattle.terms.specs.declared.kind.Axis.the-variants.{Child, Parent, Next, Previous}
@@ -16,6 +16,20 @@ use Rattle.steps.specs.declared.gate.Gate.{Gate}
 unfoldable pub gateMark : Gate → ℕ → Bool
 gateMark gate w =
     xor (xor (bitAt w (inWord (gate .a))) (gate .first) && xor (bitAt w (inWord (gate .b))) (gate .second)) (gate .outcome)
+
+-- The gates of kind 1, the inverse of a bit and its own inverse, of whichever bit; of kind 3, both bits being one;
+abbrev pub alwaysGate : Gate
+alwaysGate = record { a = 0; b = 0; first = false; second = true; outcome = true }
+
+abbrev pub notGate : (a : ℕ) → Gate
+notGate a = record { a = a; b = a; first = true; second = true; outcome = false }
+
+-- of kinds 4 and 5.
+abbrev pub orGate : (a b : ℕ) → Gate
+orGate a b = record { a = a; b = b; first = true; second = true; outcome = true }
+
+abbrev pub andGate : (a b : ℕ) → Gate
+andGate a b = record { a = a; b = b; first = false; second = false; outcome = false }
 
 -- Kinds 7 and 9, or 11 and 13 (until), at an element: a and b are its bits, `back` and `mark` bit a and the pass's mark where its
 -- column leads.

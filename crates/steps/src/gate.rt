@@ -2,10 +2,7 @@
 // bit, the second and the outcome each inverted or not. So an entry's loop has no branch, and takes
 // several elements at once.
 ghost use mathlib.Core.Path.{_≡_};
-ghost use mathlib.Core.Bool.{true, not, _&&_, _||_};
-ghost use Prim.Native.Nat.{ℕ};
-ghost use Rattle.numbers.specs.Bits.{bitAt, inWord};
-ghost use Rattle.steps.specs.Steps.{gateMark};
+ghost use Rattle.steps.specs.Steps.{gateMark, alwaysGate, notGate, orGate, andGate};
 use numbers::bits::WORD_BITS;
 
 // The two bits that a gate joins, and what it inverts.
@@ -19,7 +16,7 @@ pub struct Gate {
 
 // Always true: the inverse of a bit and its own inverse, of whichever bit.
 pub fn always_gate() -> Gate
-    ensures { λ r. ⌜ ((w : ℕ) → gateMark r w ≡ true) ⌝ }
+    ensures { λ r. ⌜ r ≡ alwaysGate ⌝ }
 {
     Gate {
         a: 0,
@@ -32,7 +29,7 @@ pub fn always_gate() -> Gate
 
 // Not bit a: both bits are it.
 pub fn not_gate(a: usize) -> Gate
-    ensures { λ r. ⌜ ((w : ℕ) → gateMark r w ≡ not (bitAt w (inWord a))) ⌝ }
+    ensures { λ r. ⌜ r ≡ notGate a ⌝ }
 {
     Gate {
         a: a,
@@ -45,7 +42,7 @@ pub fn not_gate(a: usize) -> Gate
 
 // Bit a or bit b.
 pub fn or_gate(a: usize, b: usize) -> Gate
-    ensures { λ r. ⌜ ((w : ℕ) → gateMark r w ≡ (bitAt w (inWord a) || bitAt w (inWord b))) ⌝ }
+    ensures { λ r. ⌜ r ≡ orGate a b ⌝ }
 {
     Gate {
         a: a,
@@ -58,7 +55,7 @@ pub fn or_gate(a: usize, b: usize) -> Gate
 
 // Bit a and bit b.
 pub fn and_gate(a: usize, b: usize) -> Gate
-    ensures { λ r. ⌜ ((w : ℕ) → gateMark r w ≡ (bitAt w (inWord a) && bitAt w (inWord b))) ⌝ }
+    ensures { λ r. ⌜ r ≡ andGate a b ⌝ }
 {
     Gate {
         a: a,
