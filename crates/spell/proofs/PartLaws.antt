@@ -26,18 +26,21 @@ use Rattle.spell.proofs.Changes.{Grows}
 -- It is a form; from "not" on an entry is written; and there are entries and bytes left.
 abbrev pub Fits : (form size : ℕ) (w : Written) → Type 0
 Fits form size w =
-    ((((1 ≤ form) × (form ≤ 17)) × ((form ≤ 2) ⊎ (1 ≤ w .entries))) × (w .entries + formEntries form ≤ entriesMost)) × (formBytes form ≤ size - w .bytes)
+    ((((1 ≤ form) × (form ≤ 17)) × ((form ≤ 2) ⊎ (1 ≤ w .entries))) × (w .entries + formEntries form ≤ entriesMost))
+    × (formBytes form ≤ size - w .bytes)
 
 pub fits-tests : (form size : ℕ) (w : Written) → IsTest (Fits form size w) (partFits form size w)
 unfolding partFits
 fits-tests form size w =
-    and-tests
-    (and-tests (and-tests (and-tests (leb-tests 1 form) (leb-tests form 17)) (or-tests (leb-tests form 2) (leb-tests 1 (w .entries)))) (leb-tests (w .entries + formEntries form) entriesMost))
+    let known = and-tests (leb-tests 1 form) (leb-tests form 17) in
+    let named = or-tests (leb-tests form 2) (leb-tests 1 (w .entries)) in
+    and-tests (and-tests (and-tests known named) (leb-tests (w .entries + formEntries form) entriesMost))
     (leb-tests (formBytes form) (size - w .bytes))
 
 -- The test as it is made: what the part comes to and what is left of the buffer are found first.
 pub fits-is : (form size : ℕ) (w : Written) {own bytes left : ℕ} → own ≡ formEntries form → bytes ≡ formBytes form → left ≡ size - w .bytes
-    → ((((leb 1 form && leb form 17) && (leb form 2 || leb 1 (w .entries))) && leb (w .entries + own) entriesMost) && leb bytes left) ≡ partFits form size w
+    → ((((leb 1 form && leb form 17) && (leb form 2 || leb 1 (w .entries))) && leb (w .entries + own) entriesMost) && leb bytes left)
+    ≡ partFits form size w
 unfolding partFits
 fits-is form size w o b l = rw (o, b, l)
 
