@@ -1,5 +1,5 @@
 -- One part: when it fits; what is put of it; and what that is to a caller who fills a buffer from its front. Assumes nothing.
-use Prim.Native.Nat.{ℕ, _+_, _-_, _≤_, _<_}
+use Prim.Native.Nat.{ℕ, _+_, _-_, _≤_}
 use native.Mathlib.Omega.{arith}
 use mathlib.Core.Path.{_≡_, sym, ap, subst, _∙_}
 use mathlib.Core.Bool.{true, false, _||_, _&&_}
@@ -16,7 +16,7 @@ use Rattle.terms.specs.Limits.{entriesMost}
 use Rattle.spell.specs.declared.own.Written.{Written}
 use Rattle.spell.specs.Forms.{ownEntries, formEntries, formBytes}
 use Rattle.spell.specs.Promises.{written, Room, Spelt, Adds, partFits, added, PartPut}
-use Rattle.spell.specs.Filled.{partEntries, Filled, Asks, Puts}
+use Rattle.spell.specs.Filled.{partEntries, Asks, Puts}
 use Rattle.spell.proofs.FormLaws.{entries-few, bytes-few, Sized, own-sized}
 use Rattle.spell.proofs.Adding.{adds-none}
 use Rattle.spell.proofs.Changes.{Grows}
