@@ -1,16 +1,15 @@
 -- How many bytes an accepted report has: ten for each element, six to open it and four to close it. For every list. Assumes nothing.
 use Prim.Native.Nat.{ℕ, zero, suc, pred, _+_, _*_, _<_}
 use native.Mathlib.Omega.{arith}
-use mathlib.Core.Path.{_≡_, refl, sym, ap, _∙_}
+use mathlib.Core.Path.{_≡_, refl, ap, _∙_}
 use mathlib.Core.Bool.{Bool, true, false, _&&_}
 use mathlib.Core.List.{List, [], _∷_, _++_}
 use lib.Dec.{ltb, eqb}
 use lib.ListN.{length, length-append}
-use Rattle.numbers.specs.Bytes.{numberAt}
 use Rattle.terms.specs.Frame.{kindAt, nextOf, startOf}
-use Rattle.tag.specs.Record.{tagAt, recordFault}
+use Rattle.tag.specs.Record.{tagAt}
 use Rattle.reports.specs.Report.{tagsBefore, reportFault, reportAnswer}
-use Rattle.tag.specs.Tags.{Tag, opens, closes, depthFrom, depth, labels, openedCount, tagFault}
+use Rattle.tag.specs.Tags.{Tag, depthFrom, depth, labels, openedCount}
 use Rattle.terms.specs.declared.answer.Answer.the-variants.{Accepted}
 use Rattle.tag.proofs.RecordLaws.{tag-opens, tag-closes, record-sound, close-sound, opens-size, closes-size}
 use Rattle.tag.proofs.TagLaws.{depth-append, labels-append}

@@ -6,7 +6,7 @@ use native.Mathlib.Omega.{arith}
 use mathlib.Core.Path.{_≡_, refl, ap, _∙_}
 use mathlib.Core.List.{List, [], _∷_}
 use lib.ListN.{length, getD}
-use Rattle.numbers.specs.Lists.{listed, over}
+use Rattle.numbers.specs.Lists.{over}
 use Rattle.numbers.proofs.Lists.{listed-length, listed-at, listed-only, over-at}
 use Rattle.rules.specs.Entries.{flat}
 use Rattle.entry.specs.declared.entry.Entry.{Entry}

@@ -9,7 +9,7 @@ use mathlib.Core.List.{List, _++_}
 use mathlib.Core.Logic.{inr}
 use lib.ListN.{length, getD, take, drop, length-drop, length-append, List·getD-append}
 use lib.Seq.{length-take-le, take-append-le, drop-append-le}
-use Rattle.numbers.specs.Bytes.{wordAt, numberAt}
+use Rattle.numbers.specs.Bytes.{wordAt}
 use Rattle.rules.specs.Rule.{ruleAnswer}
 use Rattle.reports.specs.Report.{reportAnswer}
 use Rattle.terms.specs.Answer.{inOrder}

@@ -5,18 +5,12 @@ use borrow.Author.Tests.{le-ltb}
 use mathlib.Core.Path.{_≡_, refl, sym, ap, subst, _∙_}
 use mathlib.Core.Bool.{Bool, cond}
 use mathlib.Core.List.{List, [], _∷_, _++_, flatten}
-use mathlib.Core.Logic.{⊎-elim}
 use lib.Dec.{eqb}
 use lib.ListN.{length, getD}
 use lib.Seq.{length-sets}
 use Rattle.terms.specs.Answer.{numberOf, placeOf, countOf, Accepts}
 use Rattle.terms.proofs.AnswerLaws.{sound-by}
-use Rattle.rules.specs.Rule.{ruleAnswer}
 use Rattle.reports.specs.Report.{reportAnswer}
-use Rattle.terms.specs.declared.answer.Answer.{Answer}
-use Rattle.terms.specs.declared.answer.Answer.the-variants.{Accepted, Refused}
-use Rattle.grammar.proofs.WhenRule.{rule-numbers}
-use Rattle.grammar.proofs.WhenReport.{report-numbers}
 use Rattle.grammar.proofs.Entries.{entries-count, entries-some}
 use Rattle.grammar.proofs.Elements.{elements-count, levels-elements, elements-few}
 use Rattle.meaning.specs.Marks.{wordOf, verdict, selected}

@@ -19,7 +19,7 @@ use Rattle.grammar.proofs.Elements.{elements-count, levels-elements, levels-leg
 use Rattle.grammar.proofs.Sizes.{accepted-size}
 use Rattle.meaning.specs.Links.{parent, previous}
 use Rattle.meaning.proofs.Links.{Down, parent-down, previous-down}
-use Rattle.layout.specs.Links.{numberFor, numbersBelow, parents, previousSiblings, leadsTo, leads, Leads, Linked}
+use Rattle.layout.specs.Links.{numberFor, numbersBelow, parents, previousSiblings, leadsTo, Leads, Linked}
 use Rattle.layout.specs.Layout.{leastOf, roomIn, withRoom, LaidOut}
 use Rattle.layout.proofs.LinkLaws.{leads-at}
 use Rattle.reports.specs.Elements.{ElementsTaken, labelsOf, levelsOf}

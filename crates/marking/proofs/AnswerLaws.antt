@@ -16,7 +16,7 @@ use Rattle.reports.specs.Report.{reportAnswer}
 use Rattle.terms.specs.declared.answer.Answer.{Answer}
 use Rattle.terms.specs.declared.answer.Answer.the-variants.{Accepted, Refused}
 use Rattle.entry.specs.declared.entry.Entry.{Entry}
-use Rattle.terms.specs.Limits.{elementsMost, entriesMost, reportMost}
+use Rattle.terms.specs.Limits.{entriesMost, reportMost}
 use Rattle.grammar.specs.Table.{entriesIn}
 use Rattle.grammar.specs.Rules.{RuleEntries}
 use Rattle.grammar.proofs.Table.{table-of-flat}

@@ -4,20 +4,13 @@
 -- Assumes nothing.
 use Prim.Native.Nat.{ℕ, _≤_, _<_}
 use native.Mathlib.Omega.{arith}
-use borrow.Author.Tests.{ltb-false}
-use mathlib.Core.Path.{_≡_, refl, sym, ap, _∙_}
-use mathlib.Core.Bool.{Bool, true, false, cond}
+use mathlib.Core.Path.{_≡_, sym, ap, _∙_}
+use mathlib.Core.Bool.{true}
+use mathlib.Core.Logic.{_↔_}
 use mathlib.Core.List.{List, []}
-use mathlib.Core.Logic.{⊎-elim, _↔_}
-use lib.Dec.{ltb, eqb}
 use lib.ListN.{length, getD}
 use Rattle.terms.specs.Answer.{countOf, byAnswer}
-use Rattle.rules.specs.Rule.{ruleAnswer}
-use Rattle.reports.specs.Report.{reportAnswer}
 use Rattle.terms.specs.declared.answer.Answer.{Answer}
-use Rattle.terms.specs.declared.answer.Answer.the-variants.{Accepted, Refused}
-use Rattle.grammar.proofs.WhenRule.{rule-numbers}
-use Rattle.grammar.proofs.WhenReport.{report-numbers}
 use Rattle.grammar.proofs.Elements.{levels-elements}
 use Rattle.meaning.specs.Meaning.{Holds}
 use Rattle.meaning.specs.Marks.{wordOf, words, selected, verdict}

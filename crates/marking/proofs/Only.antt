@@ -2,7 +2,7 @@
 -- meet it are equal. So does that of a caller whose columns always have room.
 -- Assumes nothing.
 use Prim.Native.Nat.{ℕ}
-use mathlib.Core.Path.{_≡_, refl, ap₂}
+use mathlib.Core.Path.{_≡_, ap₂}
 use mathlib.Core.List.{List}
 use Rattle.rules.specs.Rule.{ruleAnswer}
 use Rattle.terms.specs.declared.answer.Answer.{Answer}

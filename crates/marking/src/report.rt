@@ -1,7 +1,6 @@
 // From bytes to marks: the rule's entries, the report laid out, the marking, and the answer.
 ghost use mathlib.Core.Path.{_≡_};
 ghost use Prim.Native.Nat.{_≤_};
-ghost use lib.ListN.{length};
 ghost use Rattle.grammar.specs.Table.{entriesIn};
 ghost use Rattle.grammar.specs.Rules.{RuleEntries};
 ghost use Rattle.terms.specs.Limits.{reportMost};

@@ -13,7 +13,7 @@ use Rattle.tag.specs.Record.{tagAt, recordFault, tagTaken}
 use Rattle.tag.specs.declared.tag.TakenTag.{TakenTag}
 use Rattle.reports.specs.Report.{reportAnswer, tagsOf, tagsBefore, reportFault, reportStops, reportAnswerAt, lastRecord}
 use Rattle.terms.specs.declared.answer.Answer.{Answer}
-use Rattle.terms.specs.declared.answer.Answer.the-variants.{Accepted, Refused}
+use Rattle.terms.specs.declared.answer.Answer.the-variants.{Refused}
 use borrow.Author.Tests.{lt-ltb, le-ltb}
 use lib.Dec.{ltb, eqb}
 use Rattle.numbers.specs.Bytes.{numberAt}

@@ -69,5 +69,6 @@ adds-only {w₁ = w₁} {w₂ = w₂} p q =
     let entries = p .count-is ∙ sym (q .count-is) in
     let bytes = p .spelt .bytes-are .next-is ∙ sym (q .spelt .bytes-are .next-is) in
     (same w₁ w₂ entries bytes, p .spelt .bytes-are .bytes-are ∙ sym (q .spelt .bytes-are .bytes-are)) where
-      same : (u v : Written) → u .entries ≡ v .entries → u .bytes ≡ v .bytes → written (u .entries) (u .bytes) ≡ written (v .entries) (v .bytes)
+      same : (u v : Written) → u .entries ≡ v .entries → u .bytes ≡ v .bytes
+          → written (u .entries) (u .bytes) ≡ written (v .entries) (v .bytes)
       same u v i j = rw (i, j)

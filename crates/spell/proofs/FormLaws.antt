@@ -106,49 +106,34 @@ each-at P m zero a k l h = absurd (omega arith)
 each-at P m (suc n) a k l h =
     ⊎-elim (λ e. subst P e (a .0)) (λ g. each-at P (m + 1) n (a .1) k (omega arith) (omega arith)) (eq-or-lt-of-le l)
 
--- The own entries of a form are as many as it says, and their records have as many bytes.
+-- The own entries of a form are as many as it says,
+counted : (argument n form : ℕ) → 1 ≤ form → form ≤ 17 → length (ownEntries form argument n) ≡ formEntries form
+unfolding ownEntries starEntries downEntries besideEntries formEntries
+counted argument n form l m = each-at (λ k. length (ownEntries k argument n) ≡ formEntries k) 1 17 all form l (omega arith) where
+  all : Each (λ k. length (ownEntries k argument n) ≡ formEntries k) 1 17
+  all = (refl, (refl, (refl, (refl, (refl, (refl, (refl, (refl, (refl, (refl, (refl, (refl, (refl, (refl, (refl, (refl, (refl, tt)))))))))))))))))
+
+-- and their records have as many bytes.
+measured : (argument n form : ℕ) → 1 ≤ form → form ≤ 17 → length (ruleBytes (ownEntries form argument n)) ≡ formBytes form
+unfolding ownEntries starEntries downEntries besideEntries formBytes ruleBytes recordOf bodyOf twoBytes rowOf
+measured argument n form l m = each-at (λ k. length (ruleBytes (ownEntries k argument n)) ≡ formBytes k) 1 17 all form l (omega arith) where
+  all : Each (λ k. length (ruleBytes (ownEntries k argument n)) ≡ formBytes k) 1 17
+  all = (refl, (refl, (refl, (refl, (refl, (refl, (refl, (refl, (refl, (refl, (refl, (refl, (refl, (refl, (refl, (refl, (refl, tt)))))))))))))))))
+
+-- Both.
 abbrev pub Sized : (argument n form : ℕ) → Type 0
 Sized argument n form =
     (length (ownEntries form argument n) ≡ formEntries form) × (length (ruleBytes (ownEntries form argument n)) ≡ formBytes form)
 
 pub own-sized : (argument n form : ℕ) → 1 ≤ form → form ≤ 17 → Sized argument n form
-unfolding ownEntries starEntries downEntries besideEntries formEntries formBytes ruleBytes recordOf bodyOf twoBytes rowOf
-own-sized argument n form l m = each-at (Sized argument n) 1 17 all form l (omega arith) where
-  all : Each (Sized argument n) 1 17
-  all = (
-    (refl, refl),
-    (
-      (refl, refl),
-      (
-        (refl, refl),
-        (
-          (refl, refl),
-          (
-            (refl, refl),
-            (
-              (refl, refl),
-              (
-                (refl, refl),
-                (
-                  (refl, refl),
-                  (
-                    (refl, refl),
-                    ((refl, refl), ((refl, refl), ((refl, refl), ((refl, refl), ((refl, refl), ((refl, refl), ((refl, refl), ((refl, refl), tt)))))))),
-                  ),
-                ),
-              ),
-            ),
-          ),
-        ),
-      ),
-    ),
-  )
+own-sized argument n form l m = (counted argument n form l m, measured argument n form l m)
 
--- The own entry of a form up to 9 is of that kind, and its record is that of the argument and the last entry, of which it has as many as its kind.
+-- The own entry of a form up to 9 is of that kind; of the argument and the last entry its record has as many as its kind.
 abbrev OneRecord : (argument n form : ℕ) → Type 0
 OneRecord argument n form = ruleBytes (ownEntries form argument n) ≡ ruleBytes (entry form argument (pred n) ∷ [])
 
-pub own-one : (form argument n : ℕ) {last : ℕ} → form ≤ 9 → last ≡ pred n → ruleBytes (ownEntries form argument n) ≡ ruleBytes (entry form argument last ∷ [])
+pub own-one : (form argument n : ℕ) {last : ℕ} → form ≤ 9 → last ≡ pred n
+    → ruleBytes (ownEntries form argument n) ≡ ruleBytes (entry form argument last ∷ [])
 unfolding ownEntries ruleBytes recordOf bodyOf twoBytes rowOf
 own-one form argument n l e = rw e (each-at (OneRecord argument n) 0 10 all form (omega arith) (omega arith)) where
   all : Each (OneRecord argument n) 0 10

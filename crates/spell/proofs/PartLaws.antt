@@ -1,5 +1,5 @@
 -- One part: when it fits; what is put of it; and what that is to a caller who fills a buffer from its front. Assumes nothing.
-use Prim.Native.Nat.{ℕ, _+_, _-_, _≤_, _<_}
+use Prim.Native.Nat.{ℕ, _+_, _-_, _≤_}
 use native.Mathlib.Omega.{arith}
 use mathlib.Core.Path.{_≡_, sym, ap, subst, _∙_}
 use mathlib.Core.Bool.{true, false, _||_, _&&_}
@@ -8,7 +8,6 @@ use mathlib.Core.Logic.{_⊎_}
 use lib.Dec.{leb}
 use lib.ListN.{length, length-append}
 use Rattle.numbers.proofs.Tells.{IsTest, true-iff, leb-tests, or-tests, and-tests}
-use Rattle.entry.specs.declared.entry.Entry.{Entry}
 use Rattle.grammar.specs.Rules.{ruleBytes}
 use Rattle.grammar.proofs.Rules.{rule-append}
 use Rattle.text.proofs.PutLaws.{put-then, put-as}
@@ -16,7 +15,7 @@ use Rattle.terms.specs.Limits.{entriesMost}
 use Rattle.spell.specs.declared.own.Written.{Written}
 use Rattle.spell.specs.Forms.{ownEntries, formEntries, formBytes}
 use Rattle.spell.specs.Promises.{written, Room, Spelt, Adds, partFits, added, PartPut}
-use Rattle.spell.specs.Filled.{partEntries, Filled, Asks, Puts}
+use Rattle.spell.specs.Filled.{partEntries, Asks, Puts}
 use Rattle.spell.proofs.FormLaws.{entries-few, bytes-few, Sized, own-sized}
 use Rattle.spell.proofs.Adding.{adds-none}
 use Rattle.spell.proofs.Changes.{Grows}
@@ -26,18 +25,21 @@ use Rattle.spell.proofs.Changes.{Grows}
 -- It is a form; from "not" on an entry is written; and there are entries and bytes left.
 abbrev pub Fits : (form size : ℕ) (w : Written) → Type 0
 Fits form size w =
-    ((((1 ≤ form) × (form ≤ 17)) × ((form ≤ 2) ⊎ (1 ≤ w .entries))) × (w .entries + formEntries form ≤ entriesMost)) × (formBytes form ≤ size - w .bytes)
+    ((((1 ≤ form) × (form ≤ 17)) × ((form ≤ 2) ⊎ (1 ≤ w .entries))) × (w .entries + formEntries form ≤ entriesMost))
+    × (formBytes form ≤ size - w .bytes)
 
 pub fits-tests : (form size : ℕ) (w : Written) → IsTest (Fits form size w) (partFits form size w)
 unfolding partFits
 fits-tests form size w =
-    and-tests
-    (and-tests (and-tests (and-tests (leb-tests 1 form) (leb-tests form 17)) (or-tests (leb-tests form 2) (leb-tests 1 (w .entries)))) (leb-tests (w .entries + formEntries form) entriesMost))
+    let known = and-tests (leb-tests 1 form) (leb-tests form 17) in
+    let named = or-tests (leb-tests form 2) (leb-tests 1 (w .entries)) in
+    and-tests (and-tests (and-tests known named) (leb-tests (w .entries + formEntries form) entriesMost))
     (leb-tests (formBytes form) (size - w .bytes))
 
 -- The test as it is made: what the part comes to and what is left of the buffer are found first.
 pub fits-is : (form size : ℕ) (w : Written) {own bytes left : ℕ} → own ≡ formEntries form → bytes ≡ formBytes form → left ≡ size - w .bytes
-    → ((((leb 1 form && leb form 17) && (leb form 2 || leb 1 (w .entries))) && leb (w .entries + own) entriesMost) && leb bytes left) ≡ partFits form size w
+    → ((((leb 1 form && leb form 17) && (leb form 2 || leb 1 (w .entries))) && leb (w .entries + own) entriesMost) && leb bytes left)
+    ≡ partFits form size w
 unfolding partFits
 fits-is form size w o b l = rw (o, b, l)
 

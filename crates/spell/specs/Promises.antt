@@ -1,6 +1,6 @@
--- What is promised of entries put behind what is written in a lent buffer. `put_part` promises `PartPut`, `Adds` of `added`: where the part's own
--- entries fit, their records stand behind what was written, every other byte is as it was, and they are counted; where they do not, nothing
--- is put, so every byte and both counts are as they were.
+-- What is promised of entries put behind what is written in a lent buffer. `put_part` promises `PartPut`, which is `Adds` of `added`: where
+-- the part's own entries fit, their records stand behind what was written, every other byte is as it was, and they are counted; where they
+-- do not, nothing is put, so every byte and both counts are as they were.
 -- Shuts out: a byte past the records changed; a record past the buffer's end or past entry 64; a form that is none.
 -- Laws: proofs/Adding.antt (one result only: `adds-only`), proofs/PartLaws.antt. Assumes nothing.
 use Prim.Native.Nat.{ℕ, _+_, _-_, _≤_}

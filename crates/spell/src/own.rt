@@ -30,8 +30,8 @@ fn left(room: usize, used: usize) -> usize
     if room < used { 0 } else { room - used }
 }
 
-// The one test before a part is put: its form is one of the table's; from "not" on a form names entries,
-// so that one is written; and there are entries and bytes left for its own.
+// The one test before a part is put: its form is one of the table's; from "not" on a form names
+// entries, so that one is written; and there are entries and bytes left for its own.
 fn fits(room: usize, entries: u16, bytes: usize, form: u16) -> bool
     ensures { λ r. ⌜ r ≡ partFits form room (written entries bytes) ⌝ }
 {
@@ -42,8 +42,8 @@ fn fits(room: usize, entries: u16, bytes: usize, form: u16) -> bool
         & (own_bytes(form) as usize <= left(room, bytes))
 }
 
-// The own entries behind n, where they fit. The record of a form up to 9 is of that kind, and has as many
-// of the two numbers as the kind.
+// The own entries behind n, where they fit. The record of a form up to 9 is of that kind, and has as
+// many of the two numbers as the kind.
 fn put_own(rule: &mut [u8], at: usize, n: u16, form: u16, argument: u16) -> usize
     requires { ⌜ (n ≤ entriesMost) × Room (ownEntries form argument n) (now rule) at ⌝ }
     ensures { λ r. ⌜ Spelt (ownEntries form argument n) (now (rule .entry)) at r (now (rule .exit)) ⌝ }

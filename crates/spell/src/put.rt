@@ -1,4 +1,5 @@
-// Records put into the buffer, one behind the other: each function answers the offset past what it put.
+// Records put into the buffer, one behind the other: each function answers the offset past what it
+// put.
 ghost use mathlib.Core.Path.{_≡_};
 ghost use mathlib.Core.List.{[], _∷_};
 ghost use Prim.Native.Nat.{_+_, _≤_, pred};

@@ -77,7 +77,8 @@ module _ {rows : List ℕ} {n : ℕ} {p : Part} (s : Says rows n p) where
   path-form q x = rw (s .part-is) (path-row rows q n 0 x .1)
 
   -- In a row of form 1 or 2 stands true or a label, which is its first number,
-  pub leaf-is : (t : Test) → HeldT rows t n → p .form ≤ 2 → (1 ≤ p .form) × ((es : List Entry) → putT t es ≡ partEntries (p .form) (p .first) es)
+  pub leaf-is : (t : Test) → HeldT rows t n → p .form ≤ 2
+      → (1 ≤ p .form) × ((es : List Entry) → putT t es ≡ partEntries (p .form) (p .first) es)
   unfolding HeldT
   leaf-is everywhere r h = rw (read r .0, read r .1) (omega arith, true-puts)
   leaf-is (labelled l) r h = rw (read r .0, read r .1) (omega arith, label-puts l)
@@ -138,7 +139,8 @@ module _ {rows : List ℕ} {n : ℕ} {p : Part} (s : Says rows n p) where
   tested-is (along x) b (a, r) k = let f = axis-form x in absurd (omega (arith, read r .0, f .0, f .1, k (omega (arith, read r .0, f .0))))
   tested-is (along* x) b (a, r) k = let f = star-form x in absurd (omega (arith, read r .0, f .0, f .1, k (omega (arith, read r .0, f .0))))
   tested-is (passing t) b (a, l, r, x) k = rw (read r .1, read r .0) (t, l, x, omega arith, omega arith, passing-puts t)
-  tested-is (while y t) b (a, l, r, x) k = let f = axis-form y in rw (read r .1, read r .0) (t, l, x, omega (arith, f .0), omega (arith, f .1), while-puts y t)
+  tested-is (while y t) b (a, l, r, x) k =
+      let f = axis-form y in rw (read r .1, read r .0) (t, l, x, omega (arith, f .0), omega (arith, f .1), while-puts y t)
 
 -- ---- the steps of a path, from last to first
 

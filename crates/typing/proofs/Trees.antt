@@ -28,7 +28,8 @@ put-last : (es : List Entry) (d : Entry) → lastOf (put es d) ≡ length es
 put-last es d = ap pred (put-length es d ∙ add-one (length es))
 
 -- Two entries, of which the second names the first.
-two-are : (es : List Entry) (d : Entry) (kind b : ℕ) {i : ℕ} → i ≡ length es → put (put es d) (entry kind i b) ≡ es ++ (d ∷ entry kind (length es) b ∷ [])
+two-are : (es : List Entry) (d : Entry) (kind b : ℕ) {i : ℕ} → i ≡ length es
+    → put (put es d) (entry kind i b) ≡ es ++ (d ∷ entry kind (length es) b ∷ [])
 unfolding put
 two-are es d kind b e = rw e (append-assoc es (d ∷ []) (entry kind (length es) b ∷ []))
 
@@ -55,10 +56,12 @@ down-is argument es =
     let third = entry 6 (lastOf es₂) 0 in
     let es₃ = put es₂ third in
     four-are es first second third (entry 4 argument (lastOf es₃))
-    ∙ named (put-last es first) (put-last es₁ second ∙ put-length es first) (put-last es₂ third ∙ omega (arith, put-length es₁ second, put-length es first)) where
+    ∙ named (put-last es first) (put-last es₁ second ∙ put-length es first)
+    (put-last es₂ third ∙ omega (arith, put-length es₁ second, put-length es first)) where
       named : {i j k : ℕ} → i ≡ length es → j ≡ length es + 1 → k ≡ length es + 2
           → es ++ (entry 5 argument (lastOf es) ∷ entry 10 (lastOf es) i ∷ entry 6 j 0 ∷ entry 4 argument k ∷ [])
-          ≡ es ++ (entry 5 argument (lastOf es) ∷ entry 10 (lastOf es) (length es) ∷ entry 6 (length es + 1) 0 ∷ entry 4 argument (length es + 2) ∷ [])
+          ≡ es ++ (entry 5 argument (lastOf es) ∷ entry 10 (lastOf es) (length es) ∷ entry 6 (length es + 1) 0
+          ∷ entry 4 argument (length es + 2) ∷ [])
       named p q r = rw (p, q, r)
 
 -- ---- the parts of a tree

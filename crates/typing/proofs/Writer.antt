@@ -58,7 +58,8 @@ module _ {rows : List ℕ} {n : ℕ} {p : Part} (s : Says rows n p) {rule : List
     pub or-first : TestAsks rows n rule w → (p .first < n) × TestAsks rows (p .first) rule w
     or-first (t, x, a) =
         let i = or-is s t x h in
-        let b = asks-first (λ k. putT (i .0)) (λ k. lastTested 4 (putT (i .1))) refl (λ k. tested-grows 4 (test-grows (i .1))) (asks-as (i .6) a) in
+        let g = tested-grows 4 (test-grows (i .1)) in
+        let b = asks-first (λ k. putT (i .0)) (λ k. lastTested 4 (putT (i .1))) refl (λ k. g) (asks-as (i .6) a) in
         (i .2, (i .0, i .4, b))
 
     module _ {rule₁ : List ℕ} {w₁ : Written} (q : TestPuts rows (p .first) rule w rule₁ w₁) where
@@ -83,12 +84,14 @@ module _ {rows : List ℕ} {n : ℕ} {p : Part} (s : Says rows n p) {rule : List
           let b = asks-second (λ m. putT (i .1)) (partEntries 4) d v (or-left t x a) in
           let e = or-is s u y h in
           puts-as (e .6) (puts-both (λ m. putT (e .0)) (λ m. lastTested 4 (putT (e .1))) refl (q (e .0) (e .4))
-          (puts-both (λ m. putT (e .1)) (partEntries 4) d (r (e .1) (e .5)) (part-puts 4 j (omega arith, omega arith, inr (omega (arith, v .more))) b o)))
+          (puts-both (λ m. putT (e .1)) (partEntries 4) d (r (e .1) (e .5))
+          (part-puts 4 j (omega arith, omega arith, inr (omega (arith, v .more))) b o)))
 
   -- <PATH>: "true", and the path's steps from last to first
   module _ (h : OfStep (p .form)) where
     -- There is room for "true", so it is put;
-    pub path-first : {rule₁ : List ℕ} {w₁ : Written} → TestAsks rows n rule w → PartPut 1 0 rule w rule₁ w₁ → Puts (partEntries 1 0) rule w rule₁ w₁
+    pub path-first : {rule₁ : List ℕ} {w₁ : Written} → TestAsks rows n rule w → PartPut 1 0 rule w rule₁ w₁
+        → Puts (partEntries 1 0) rule w rule₁ w₁
     path-first (t, x, a) q =
         let i = path-is s t x h in
         let b = asks-first (λ k. partEntries 1 0) (λ k. putP (i .0)) refl (λ k. path-grows (i .0)) (asks-as (i .2) a) in
@@ -118,7 +121,8 @@ module _ {rows : List ℕ} {n : ℕ} {p : Part} (s : Says rows n p) {rule : List
       → PartPut (p .form) j rule w rule₁ w₁ → StepPuts rows n rule w rule₁ w₁
   plain-put {j = j} l m o d (st, b, x, a) q st′ b′ x′ =
       let c = asks-last (partEntries (p .form)) d (asks-as (plain-is s st b x l m) a) in
-      puts-as (plain-is s st′ b′ x′ l m) (puts-last (partEntries (p .form)) d (part-puts (p .form) j (omega (arith, l), omega (arith, m), inr o) c q))
+      puts-as (plain-is s st′ b′ x′ l m)
+      (puts-last (partEntries (p .form)) d (part-puts (p .form) j (omega (arith, l), omega (arith, m), inr o) c q))
 
   -- ?TEST and (AXIS?TEST)*: the test, which stands below, and the step's own entries
   module _ (k : 6 ≤ p .form → 14 ≤ p .form) where

@@ -29,7 +29,8 @@ put-star-requires c κs =
     let x1 = c .before in
     let x2 = x1 .before in
     let s = x2 .before .before .before in
-    room-as (ap ruleBytes (own-star (s .args .form) (s .args .argument) (s .args .n) (x2 .if1 .left) (omega (arith, x1 .if2 .taken)))) (s .pre .1)
+    let e = own-star (s .args .form) (s .args .argument) (s .args .n) (x2 .if1 .left) (omega (arith, x1 .if2 .taken)) in
+    room-as (ap ruleBytes e) (s .pre .1)
 
 put-beside-requires : tie.Need-put-beside-requires
 put-beside-requires c κs =
@@ -60,7 +61,8 @@ returns-2 c =
     let x2 = x1 .before in
     let x3 = x2 .before .before in
     let s = x3 .before .before .before in
-    spelt-as (own-one (s .args .form) (s .args .argument) (s .args .n) (omega (arith, x3 .if1 .taken)) (x2 .last .ensures)) (x1 .put-record .ensures)
+    let e = own-one (s .args .form) (s .args .argument) (s .args .n) (omega (arith, x3 .if1 .taken)) (x2 .last .ensures) in
+    spelt-as e (x1 .put-record .ensures)
 
 same-length-3 : tie.Need-same-length-3
 same-length-3 c = search needs

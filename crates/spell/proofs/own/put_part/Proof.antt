@@ -16,7 +16,8 @@ put-own-requires c κs =
     let x2 = x1 .before in
     let a = x2 .before .before .args in
     let e = sym (x2 .fits2 .ensures) ∙ x1 .if1 .taken in
-    (omega (arith, fits-few (a .form) (a .argument) (a .rule .now) (written (a .entries) (a .bytes)) e), fits-room (a .form) (a .argument) (a .rule .now) (written (a .entries) (a .bytes)) e)
+    let w = written (a .entries) (a .bytes) in
+    (omega (arith, fits-few (a .form) (a .argument) (a .rule .now) w e), fits-room (a .form) (a .argument) (a .rule .now) w e)
 
 own-entries-requires : tie.Need-own-entries-requires
 own-entries-requires c κs = search needs
@@ -39,7 +40,8 @@ returns c =
     let x3 = x2 .before in
     let a = x3 .before .before .args in
     let e = sym (x3 .fits2 .ensures) ∙ x2 .if1 .taken in
-    fits-adds (a .form) (a .argument) (a .rule .now) (written (a .entries) (a .bytes)) e (c .own-entries .ensures) (x1 .put-own .ensures) refl refl
+    let w = written (a .entries) (a .bytes) in
+    fits-adds (a .form) (a .argument) (a .rule .now) w e (c .own-entries .ensures) (x1 .put-own .ensures) refl refl
 
 returns-2 : tie.Need-returns-2
 returns-2 c =

@@ -1,6 +1,5 @@
 -- `put_number`: the bit stays within the word. Assumes nothing.
 use Prim.Native.Nat.{_%_}
-use native.Mathlib.Nat.{mod-lt}
 use native.Mathlib.Omega.{arith}
 use Rattle.numbers.proofs.Masks.{shifted-number}
 use Rattle.numbers.specs.Bits.{inWord}

@@ -176,7 +176,8 @@ write-returns t c =
     let x3 = x2 .before .before .before .before in
     let x4 = x3 .before .before in
     let x5 = x4 .before in
-    not-put (write-says t x5) (x4 .match .keys1) (x3 .write .ensures) (x2 .last .ensures) (x5 .before .before .pre .1 .1) (x1 .put-part .ensures)
+    not-put (write-says t x5) (x4 .match .keys1) (x3 .write .ensures) (x2 .last .ensures) (x5 .before .before .pre .1 .1)
+    (x1 .put-part .ensures)
 
 write-same-length-2 : (t : ℕ) → write-lts.Need-same-length-2 (write-calls t) (write-at t) write.Post
 write-same-length-2 t c = search needs
@@ -264,7 +265,8 @@ write-step-returns-2 t c =
     let x3 = x2 .before .before .before .before in
     let x4 = x3 .before .before in
     let x5 = x4 .before in
-    tested-put (write-step-says t x5) (with-test t x4) (x3 .write .ensures) (x2 .last2 .ensures) (x5 .before .before .pre .1 .2) (x1 .put-part2 .ensures)
+    tested-put (write-step-says t x5) (with-test t x4) (x3 .write .ensures) (x2 .last2 .ensures) (x5 .before .before .pre .1 .2)
+    (x1 .put-part2 .ensures)
 
 -- The steps of a path are put in a loop.
 abbrev write-steps-Inv-loop : write-steps-lts.InvT-loop

@@ -11,7 +11,6 @@ use Rattle.walk.specs.Walk.{looksAhead}
 use Rattle.walk.proofs.WalkLaws.{AskMid, ahead-then, ask-done, ask-none}
 use Rattle.walk.proofs.walk.ask_rule.Statement.{statement}
 use Rattle.walk.proofs.walk.ask_rule.Tie as tie
-use Rattle.rules.specs.Entries.{entriesBefore}
 use Rattle.rules.proofs.EntryLaws.{halts-ended, halts-faulty, entries-none, entries-many}
 use Rattle.numbers.specs.Lists.{listed}
 

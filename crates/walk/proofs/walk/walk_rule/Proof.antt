@@ -13,7 +13,6 @@ use Rattle.walk.proofs.WalkLaws.{StepMid, word-more, ahead-then, walk-d
 use borrow.Author.Needs.{needs}
 use Rattle.walk.proofs.walk.walk_rule.Statement.{statement}
 use Rattle.walk.proofs.walk.walk_rule.Tie as tie
-use Rattle.rules.specs.Entries.{entriesBefore}
 use Rattle.rules.proofs.EntryLaws.{halts-ended, halts-faulty, entries-none, entries-many}
 use Rattle.numbers.specs.Lists.{listed}
 
