@@ -12,9 +12,9 @@ use steps::ahead::AskedAhead;
 use steps::ahead::given_at;
 use steps::ahead::own_at;
 use steps::word::bit_where;
+use steps::word::low_with_bit;
 use steps::word::put_bit;
-use steps::word::put_number;
-use steps::word::with_bit;
+use steps::word::put_low_bit;
 
 // Entry i at every element, by turns from the last on: each has gathered from all that lead to it before
 // its own turn. `next` is where the element after leads.
@@ -38,7 +38,7 @@ pub(crate) fn turn_pass(
         t -= 1;
         let w = marks[t];
         let own = own_at(asked, a, b, i, next == t, w);
-        marks[t] = with_bit(w, i, own);
+        marks[t] = low_with_bit(w, i, own);
         next = wide(f[t]);
         let given = given_at(asked, a, next < t, own, w);
         marks[next] = put_bit(marks[next], i, given);
@@ -57,7 +57,7 @@ pub(crate) fn gather_pass(a: usize, i: usize, f: &[u16], marks: &mut [u64])
     while s < f.len() {
         let p = wide(f[s]);
         let given = bit_where(marks[s], a, p < s);
-        marks[p] = put_number(marks[p], i, given);
+        marks[p] = put_low_bit(marks[p], i, given);
         s += 1;
     }
 }

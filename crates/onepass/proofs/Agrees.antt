@@ -33,7 +33,7 @@ use Rattle.state.specs.State.{stateSize, stateOf, Good}
 use Rattle.state.specs.Stores.{startAfter, bytesAfter}
 use Rattle.state.proofs.StateLaws.{zeros-fresh, zeros-good, zeros-bytes}
 use Rattle.state.proofs.WrittenLaws.{written-state, written-good, written-bytes}
-use Rattle.onepass.specs.Calls.{Call, Promised, Calls, done, then, tagsCalled, taken, takenTags, Begins}
+use Rattle.onepass.specs.Calls.{Call, Promised, Calls, done, then, tagsCalled, taken, takenTags, BeginsWith}
 use Rattle.onepass.specs.Step.{callNumber, callOutcome, answerOf, stateAfter, Started, Opened}
 use Rattle.onepass.specs.declared.export.StepReply.{StepReply}
 use Rattle.onepass.proofs.CallLaws.{call-taken, call-number}
@@ -237,7 +237,7 @@ module _ (rule : List ℕ) (m : ℕ) (accepted : ruleAnswer rule ≡ Accepted m)
 
       -- THE THEOREM: its verdict is the meaning's verdict of the element whose number is the count of openings accepted before, in
       -- every report that the report reader accepts and whose bytes begin with the accepted tags' bytes.
-      pub verdict-agrees : (report : List ℕ) (n : ℕ) → Begins (tags ++ (opens label ∷ [])) report n
+      pub verdict-agrees : (report : List ℕ) (n : ℕ) → BeginsWith (tags ++ (opens label ∷ [])) report n
           → r .verdict ≡ bit (verdict (entriesOf rule) (levelsOf report) (labelsOf report) (openedCount tags))
       verdict-agrees report n b =
           let q = report-begins report n (b .bytes) (b .accepted) (tags ++ (opens label ∷ [])) (b .rest) (b .begins) in
@@ -247,7 +247,7 @@ module _ (rule : List ℕ) (m : ℕ) (accepted : ruleAnswer rule ≡ Accepted m)
           ∙ rw (levels-accepted report n (b .accepted), labels-accepted report n (b .accepted), all)
 
       -- There is such a report.
-      pub goes-on : (report : List ℕ) × (n : ℕ) × Begins (tags ++ (opens label ∷ [])) report n
+      pub goes-on : (report : List ℕ) × (n : ℕ) × BeginsWith (tags ++ (opens label ∷ [])) report n
       goes-on =
           let h = reached-taken tags (parts .0) (calls-reached (parts .2)) (opens label) number-zero in
           let f = fit-goes-on (tags ++ (opens label ∷ [])) (taken-fit es _ .0 (h .taken-are)) (some tags) in
@@ -269,7 +269,7 @@ module _ (rule : List ℕ) (m : ℕ) (accepted : ruleAnswer rule ≡ Accepted m)
           (rw fed (taken-fit es (tagsIn report) .1 (accepted-legal report n taken-report .fit)))
 
       fed-begins : (before : List Call) (c : Call) (later : List Call) → cs ≡ before ++ (c ∷ later)
-          → Begins (tagsCalled before ++ (c .tag ∷ [])) report n
+          → BeginsWith (tagsCalled before ++ (c .tag ∷ [])) report n
       unfolding tagsCalled
       fed-begins before c later e =
           let split : tagsIn report ≡ tagsCalled before ++ (c .tag ∷ tagsCalled later) = sym fed ∙ ap tagsCalled e ∙ tags-append before (c ∷ later) in

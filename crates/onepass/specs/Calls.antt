@@ -42,7 +42,7 @@ abbrev pub takenTags : List Call → List Tag
 takenTags cs = tagsCalled (taken cs)
 
 -- A report of n elements that the report reader accepts and whose bytes begin with the bytes of some tags.
-pub record Begins (tags : List Tag) (report : List ℕ) (n : ℕ) : Type 0 where
+pub record BeginsWith (tags : List Tag) (report : List ℕ) (n : ℕ) : Type 0 where
   pub bytes : Bytes report
   pub accepted : reportAnswer report ≡ Accepted n
   pub rest : List ℕ

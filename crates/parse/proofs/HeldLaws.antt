@@ -11,7 +11,7 @@ use lib.Seq.{sets, length-sets, getD-set-same, getD-set-other}
 use Rattle.paths.specs.Syntax.{Test, everywhere, labelled, except, either, begins, Path, only, _then_, Step, along, along*, passing, while}
 use Rattle.paths.specs.Translation.{tableOf}
 use Rattle.paths.proofs.Count.{weightT, table-count}
-use Rattle.parse.specs.Rows.{noRows, noteRow, formOf, testEntries, entriesT, entriesP, entriesS, noteT, noteP, noteS, Row, HeldT, HeldP, HeldS}
+use Rattle.parse.specs.Rows.{noRows, noteRow, formOf, testEntries, entriesT, entriesP, entriesS, noteT, noteP, noteS, RowHas, HeldT, HeldP, HeldS}
 use Rattle.parse.proofs.TreeLaws.{step-own}
 use Rattle.spell.proofs.FormLaws.{entries-few}
 use Rattle.terms.specs.Limits.{entriesMost}
@@ -26,7 +26,7 @@ module _ (rows after : List ℕ) where
   fewer : (a n : ℕ) → a ≤ n → Same n → Same a
   fewer a n l h i m = h i (omega arith)
 
-  row-kept : (n form a b : ℕ) → Same n → Row rows n form a b → Row after n form a b
+  row-kept : (n form a b : ℕ) → Same n → RowHas rows n form a b → RowHas after n form a b
   row-kept n form a b h r =
       let l = r .there in
       record { there = l; is-form = h _ (omega arith) ∙ r .is-form; is-a = h _ (omega arith) ∙ r .is-a; is-b = h _ (omega arith) ∙ r .is-b }
@@ -80,7 +80,7 @@ module _ (rows : List ℕ) (n form a b : ℕ) where
     go true = stores-below (form ∷ a ∷ b ∷ []) rows (3 * n - 3) i (omega arith)
     go false = refl
 
-  row-there : 1 ≤ n → n ≤ entriesMost → length rows ≡ 192 → Row (noteRow rows n form a b) n form a b
+  row-there : 1 ≤ n → n ≤ entriesMost → length rows ≡ 192 → RowHas (noteRow rows n form a b) n form a b
   unfolding noteRow
   row-there l m e =
       let i = 3 * n - 3 in
@@ -172,7 +172,7 @@ path-some (_then_ st p) = omega (arith, path-some p)
 
 -- A step's row filled behind its test, which stays held.
 tested : (st : Step) (t : Test) (n a b : ℕ) (mid : List ℕ) → a < n → n ≤ entriesMost → length mid ≡ 192 → HeldT mid t a
-    → (let after = noteRow mid n (formOf st) a b in (c : ℕ) × (c < n) × Row after n (formOf st) c b × HeldT after t c)
+    → (let after = noteRow mid n (formOf st) a b in (c : ℕ) × (c < n) × RowHas after n (formOf st) c b × HeldT after t c)
 tested st t n a b mid l m e x =
     (a, l, row-there mid n (formOf st) a b (omega arith) m e, kept mid _ t a (row-below mid n (formOf st) a b a l) x)
 

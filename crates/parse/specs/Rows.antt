@@ -90,7 +90,7 @@ unfoldable mutual
   noteS (while x t) k before rows = stepRow (while x t) k before (noteT t k rows)
 
 -- Row n is there, with these numbers.
-pub record Row (rows : List ℕ) (n form a b : ℕ) : Type 0 where
+pub record RowHas (rows : List ℕ) (n form a b : ℕ) : Type 0 where
   pub there : 1 ≤ n
   pub is-form : getD rows (3 * n - 3) 0 ≡ form
   pub is-a : getD rows (3 * n - 2) 0 ≡ a
@@ -100,10 +100,10 @@ pub record Row (rows : List ℕ) (n form a b : ℕ) : Type 0 where
 module _ (rows : List ℕ) where
   unfoldable mutual
     pub HeldT : Test → ℕ → Type 0
-    HeldT everywhere n = Row rows n 1 0 0
-    HeldT (labelled l) n = Row rows n 2 l 0
-    HeldT (except t) n = (a : ℕ) × (a < n) × Row rows n 3 a 0 × HeldT t a
-    HeldT (either t u) n = (a : ℕ) × (b : ℕ) × (a < n) × (b < n) × Row rows n 4 a b × HeldT t a × HeldT u b
+    HeldT everywhere n = RowHas rows n 1 0 0
+    HeldT (labelled l) n = RowHas rows n 2 l 0
+    HeldT (except t) n = (a : ℕ) × (a < n) × RowHas rows n 3 a 0 × HeldT t a
+    HeldT (either t u) n = (a : ℕ) × (b : ℕ) × (a < n) × (b < n) × RowHas rows n 4 a b × HeldT t a × HeldT u b
     HeldT (begins p) n = HeldP p n 0
 
     pub HeldP : Path → (n b : ℕ) → Type 0
@@ -111,7 +111,7 @@ module _ (rows : List ℕ) where
     HeldP (_then_ st p) n b = (m : ℕ) × (m < n) × HeldS st m b × HeldP p n m
 
     pub HeldS : Step → (n b : ℕ) → Type 0
-    HeldS (along x) n b = (a : ℕ) × Row rows n (formOf (along x)) a b
-    HeldS (along* x) n b = (a : ℕ) × Row rows n (formOf (along* x)) a b
-    HeldS (passing t) n b = (a : ℕ) × (a < n) × Row rows n (formOf (passing t)) a b × HeldT t a
-    HeldS (while x t) n b = (a : ℕ) × (a < n) × Row rows n (formOf (while x t)) a b × HeldT t a
+    HeldS (along x) n b = (a : ℕ) × RowHas rows n (formOf (along x)) a b
+    HeldS (along* x) n b = (a : ℕ) × RowHas rows n (formOf (along* x)) a b
+    HeldS (passing t) n b = (a : ℕ) × (a < n) × RowHas rows n (formOf (passing t)) a b × HeldT t a
+    HeldS (while x t) n b = (a : ℕ) × (a < n) × RowHas rows n (formOf (while x t)) a b × HeldT t a

@@ -20,7 +20,7 @@ use words::begins::or_at;
 use words::begins::start_at;
 use words::words::Word;
 use words::words::byte_at;
-use words::words::word_at;
+use words::words::fixed_at;
 
 // How many bytes a text has at most.
 const TEXT_MOST: usize = 1024;
@@ -136,7 +136,7 @@ fn shut(s: &[u8], p: Parsed, word: &[u8]) -> Parsed
 {
     match p {
         Parsed::Bad(q) => Parsed::Bad(q),
-        Parsed::Done(e, v, n, b) => match word_at(s, e as usize, word) {
+        Parsed::Done(e, v, n, b) => match fixed_at(s, e as usize, word) {
             Word::Missing(q) => Parsed::Bad(q as u16),
             Word::At(f) => Parsed::Done(f as u16, false, n, b),
         },

@@ -11,13 +11,13 @@ use Rattle.entry.specs.declared.entry.Entry.{Entry}
 use Rattle.grammar.specs.Rules.{recordOf, ruleBytes}
 use Rattle.text.proofs.PutLaws.{put-none, put-then, put-as}
 use Rattle.spell.specs.declared.own.Written.{Written}
-use Rattle.spell.specs.Promises.{written, Room, Spelt, Adds}
+use Rattle.spell.specs.Promises.{written, RoomFor, Spelt, Adds}
 
 -- ---- records
 
 -- A list that is spelt like another has room where that has, and is put where that is.
 module _ {es fs : List Entry} (e : ruleBytes es ≡ ruleBytes fs) {rule : List ℕ} {at : ℕ} where
-  pub room-as : Room es rule at → Room fs rule at
+  pub room-as : RoomFor es rule at → RoomFor fs rule at
   room-as a = record { enough = omega (arith, a .enough, ap length e) }
 
   pub spelt-as : {after : List ℕ} {r : ℕ} → Spelt fs rule at r after → Spelt es rule at r after
@@ -43,12 +43,12 @@ more-length e es = ap length (more-bytes e es) ∙ length-append (ruleBytes (e �
 
 module _ {e : Entry} {es : List Entry} {rule : List ℕ} {at : ℕ} where
   -- Where there is room for entries, there is for the first;
-  pub room-first : Room (e ∷ es) rule at → Room (e ∷ []) rule at
+  pub room-first : RoomFor (e ∷ es) rule at → RoomFor (e ∷ []) rule at
   room-first a = record { enough = omega (arith, a .enough, more-length e es) }
 
   module _ {rule₁ : List ℕ} {r : ℕ} (p : Spelt (e ∷ []) rule at r rule₁) where
     -- once it is put, for the others;
-    pub room-next : Room (e ∷ es) rule at → Room es rule₁ r
+    pub room-next : RoomFor (e ∷ es) rule at → RoomFor es rule₁ r
     room-next a = record { enough = omega (arith, a .enough, more-length e es, p .bytes-are .next-is, spelt-length p) }
 
     -- and once these are, all are put.

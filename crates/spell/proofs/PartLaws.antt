@@ -14,7 +14,7 @@ use Rattle.text.proofs.PutLaws.{put-then, put-as}
 use Rattle.terms.specs.Limits.{entriesMost}
 use Rattle.spell.specs.declared.own.Written.{Written}
 use Rattle.spell.specs.Forms.{ownEntries, formEntries, formBytes}
-use Rattle.spell.specs.Promises.{written, Room, Spelt, Adds, partFits, added, PartPut}
+use Rattle.spell.specs.Promises.{written, RoomFor, Spelt, Adds, partFits, added, PartPut}
 use Rattle.spell.specs.Filled.{partEntries, Asks, Puts}
 use Rattle.spell.proofs.FormLaws.{entries-few, bytes-few, Sized, own-sized}
 use Rattle.spell.proofs.Adding.{adds-none}
@@ -53,7 +53,7 @@ module _ (form argument : ℕ) (rule : List ℕ) (w : Written) (e : partFits for
   fits-few = true-iff (fits-tests form (length rule) w) .0 e .0 .1
 
   -- and bytes,
-  pub fits-room : Room (ownEntries form argument (w .entries)) rule (w .bytes)
+  pub fits-room : RoomFor (ownEntries form argument (w .entries)) rule (w .bytes)
   fits-room = record { enough = omega (arith, known .1, true-iff (fits-tests form (length rule) w) .0 e .1, bytes-few form .0) }
 
   -- and the own entries are what is added;

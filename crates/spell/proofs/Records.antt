@@ -13,7 +13,7 @@ use Rattle.grammar.specs.Rules.{bodyOf, recordOf}
 use Rattle.text.specs.Rendered.{Put}
 use Rattle.text.proofs.PutLaws.{put-none, put-one, put-then, put-as}
 use Rattle.paths.specs.Translation.{entry}
-use Rattle.spell.specs.Promises.{numbers, Room, Spelt}
+use Rattle.spell.specs.Promises.{numbers, RoomFor, Spelt}
 use Rattle.spell.proofs.Adding.{one-bytes}
 
 -- ---- numbers
@@ -75,7 +75,7 @@ unfolding recordOf twoBytes bodyOf
 record-length kind a b = omega arith
 
 -- Where there is room for a record, there are that many bytes.
-pub record-room : (kind a b : ℕ) {rule : List ℕ} {at : ℕ} → Room (entry kind a b ∷ []) rule at
+pub record-room : (kind a b : ℕ) {rule : List ℕ} {at : ℕ} → RoomFor (entry kind a b ∷ []) rule at
     → at + (4 + length (numbers (rowOf kind .arguments) a b)) ≤ length rule
 record-room kind a b k = omega (arith, k .enough, ap length (one-bytes (entry kind a b)), record-length kind a b)
 

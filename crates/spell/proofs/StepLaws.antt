@@ -5,20 +5,20 @@ use mathlib.Core.Path.{_≡_}
 use mathlib.Core.List.{List, [], _∷_}
 use Rattle.paths.specs.Translation.{entry}
 use Rattle.spell.specs.Forms.{starEntries, downEntries, besideEntries}
-use Rattle.spell.specs.Promises.{Room, Spelt}
+use Rattle.spell.specs.Promises.{RoomFor, Spelt}
 use Rattle.spell.proofs.Adding.{room-first, room-next, spelt-next}
 
 -- ---- AXIS*: two entries
 
 module _ (form argument n : ℕ) {rule : List ℕ} {at : ℕ} where
   -- There is room for the first,
-  pub star-first : Room (starEntries form argument n) rule at → Room (entry 1 0 0 ∷ []) rule at
+  pub star-first : RoomFor (starEntries form argument n) rule at → RoomFor (entry 1 0 0 ∷ []) rule at
   unfolding starEntries
   star-first a = room-first a
 
   module _ {rule₁ : List ℕ} {r : ℕ} (p : Spelt (entry 1 0 0 ∷ []) rule at r rule₁) where
     -- then for the second,
-    pub star-second : Room (starEntries form argument n) rule at → Room (entry form n argument ∷ []) rule₁ r
+    pub star-second : RoomFor (starEntries form argument n) rule at → RoomFor (entry form n argument ∷ []) rule₁ r
     unfolding starEntries
     star-second a = room-next p a
 
@@ -33,13 +33,13 @@ module _ (form argument n : ℕ) {rule : List ℕ} {at : ℕ} where
 -- The number of the last entry is told.
 module _ (form argument n : ℕ) {rule : List ℕ} {at i : ℕ} (e : i ≡ pred n) where
   -- There is room for the first,
-  pub beside-first : Room (besideEntries form argument n) rule at → Room (entry (form - 8) i 0 ∷ []) rule at
+  pub beside-first : RoomFor (besideEntries form argument n) rule at → RoomFor (entry (form - 8) i 0 ∷ []) rule at
   unfolding besideEntries
   beside-first a = rw e (room-first a)
 
   module _ {rule₁ : List ℕ} {r : ℕ} (p : Spelt (entry (form - 8) i 0 ∷ []) rule at r rule₁) where
     -- then for the second,
-    pub beside-second : Room (besideEntries form argument n) rule at → Room (entry (form - 4) n argument ∷ []) rule₁ r
+    pub beside-second : RoomFor (besideEntries form argument n) rule at → RoomFor (entry (form - 4) n argument ∷ []) rule₁ r
     unfolding besideEntries
     beside-second a = room-next (rw e at p) a
 
@@ -51,29 +51,29 @@ module _ (form argument n : ℕ) {rule : List ℕ} {at i : ℕ} (e : i ≡ pred 
 
 -- ---- (child?TEST)*: four entries
 
-module _ (argument n : ℕ) {rule : List ℕ} {at i : ℕ} (e : i ≡ pred n) (a : Room (downEntries argument n) rule at) where
+module _ (argument n : ℕ) {rule : List ℕ} {at i : ℕ} (e : i ≡ pred n) (a : RoomFor (downEntries argument n) rule at) where
   -- There is room for all four,
-  left : Room (entry 5 argument i ∷ entry 10 i n ∷ entry 6 (n + 1) 0 ∷ entry 4 argument (n + 2) ∷ []) rule at
+  left : RoomFor (entry 5 argument i ∷ entry 10 i n ∷ entry 6 (n + 1) 0 ∷ entry 4 argument (n + 2) ∷ []) rule at
   unfolding downEntries
   left = rw e a
 
   -- so for the first,
-  pub down-first : Room (entry 5 argument i ∷ []) rule at
+  pub down-first : RoomFor (entry 5 argument i ∷ []) rule at
   down-first = room-first left
 
   module _ {rule₁ : List ℕ} {r₁ : ℕ} (p : Spelt (entry 5 argument i ∷ []) rule at r₁ rule₁) where
     -- then for the second,
-    pub down-second : Room (entry 10 i n ∷ []) rule₁ r₁
+    pub down-second : RoomFor (entry 10 i n ∷ []) rule₁ r₁
     down-second = room-first (room-next p left)
 
     module _ {rule₂ : List ℕ} {r₂ : ℕ} (q : Spelt (entry 10 i n ∷ []) rule₁ r₁ r₂ rule₂) where
       -- for the third,
-      pub down-third : Room (entry 6 (n + 1) 0 ∷ []) rule₂ r₂
+      pub down-third : RoomFor (entry 6 (n + 1) 0 ∷ []) rule₂ r₂
       down-third = room-first (room-next q (room-next p left))
 
       module _ {rule₃ : List ℕ} {r₃ : ℕ} (s : Spelt (entry 6 (n + 1) 0 ∷ []) rule₂ r₂ r₃ rule₃) where
         -- and for the fourth,
-        pub down-fourth : Room (entry 4 argument (n + 2) ∷ []) rule₃ r₃
+        pub down-fourth : RoomFor (entry 4 argument (n + 2) ∷ []) rule₃ r₃
         down-fourth = room-next s (room-next q (room-next p left))
 
         -- and all four are put.

@@ -26,7 +26,7 @@ abbrev pub written : (entries bytes : ℕ) → Written
 written entries bytes = record { entries = entries; bytes = bytes }
 
 -- There are bytes left for the records of these, from an offset on.
-pub record Room (es : List Entry) (rule : List ℕ) (at : ℕ) : Type 0 where
+pub record RoomFor (es : List Entry) (rule : List ℕ) (at : ℕ) : Type 0 where
   pub enough : at + length (ruleBytes es) ≤ length rule
 
 -- Their records are put there, and the offset past them is answered.

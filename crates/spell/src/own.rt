@@ -3,7 +3,7 @@ ghost use mathlib.Core.Path.{_≡_};
 ghost use Prim.Native.Nat.{_-_, _≤_};
 ghost use Rattle.terms.specs.Limits.{entriesMost};
 ghost use Rattle.spell.specs.Forms.{ownEntries};
-ghost use Rattle.spell.specs.Promises.{written, partFits, Room, Spelt, PartPut};
+ghost use Rattle.spell.specs.Promises.{written, partFits, RoomFor, Spelt, PartPut};
 use crate::form::own_bytes;
 use crate::form::own_entries;
 use crate::put::last;
@@ -45,7 +45,7 @@ fn fits(room: usize, entries: u16, bytes: usize, form: u16) -> bool
 // The own entries behind n, where they fit. The record of a form up to 9 is of that kind, and has as
 // many of the two numbers as the kind.
 fn put_own(rule: &mut [u8], at: usize, n: u16, form: u16, argument: u16) -> usize
-    requires { ⌜ (n ≤ entriesMost) × Room (ownEntries form argument n) (now rule) at ⌝ }
+    requires { ⌜ (n ≤ entriesMost) × RoomFor (ownEntries form argument n) (now rule) at ⌝ }
     ensures { λ r. ⌜ Spelt (ownEntries form argument n) (now (rule .entry)) at r (now (rule .exit)) ⌝ }
 {
     match form {

@@ -7,7 +7,7 @@ ghost use lib.ListN.{length};
 ghost use Rattle.numbers.specs.Bytes.{twoBytes};
 ghost use Rattle.text.specs.Rendered.{Put};
 ghost use Rattle.paths.specs.Translation.{entry};
-ghost use Rattle.spell.specs.Promises.{numbers, Room, Spelt};
+ghost use Rattle.spell.specs.Promises.{numbers, RoomFor, Spelt};
 use terms::kind::row_of;
 
 // The number of the last of so many entries, which count from 0; 0 where there is none.
@@ -44,7 +44,7 @@ fn put_body(rule: &mut [u8], at: usize, arguments: usize, a: u16, b: u16) -> usi
 
 // One entry's record; a number that the kind does not have is not put.
 pub(crate) fn put_record(rule: &mut [u8], at: usize, kind: u16, a: u16, b: u16) -> usize
-    requires { ⌜ Room (entry kind a b ∷ []) (now rule) at ⌝ }
+    requires { ⌜ RoomFor (entry kind a b ∷ []) (now rule) at ⌝ }
     ensures { λ r. ⌜ Spelt (entry kind a b ∷ []) (now (rule .entry)) at r (now (rule .exit)) ⌝ }
 {
     let row = row_of(kind as usize);

@@ -4,13 +4,13 @@
 ghost use Prim.Native.Nat.{_≤_};
 ghost use Rattle.terms.specs.Limits.{entriesMost};
 ghost use Rattle.spell.specs.Forms.{starEntries, downEntries, besideEntries};
-ghost use Rattle.spell.specs.Promises.{Room, Spelt};
+ghost use Rattle.spell.specs.Promises.{RoomFor, Spelt};
 use crate::put::last;
 use crate::put::put_record;
 
 // AXIS*: a "true" of its own, and that until the argument. A form is the kind of its last entry.
 pub(crate) fn put_star(rule: &mut [u8], at: usize, n: u16, form: u16, argument: u16) -> usize
-    requires { ⌜ Room (starEntries form argument n) (now rule) at ⌝ }
+    requires { ⌜ RoomFor (starEntries form argument n) (now rule) at ⌝ }
     ensures { λ r. ⌜ Spelt (starEntries form argument n) (now (rule .entry)) at r (now (rule .exit)) ⌝ }
 {
     let ever = put_record(rule, at, 1, 0, 0);
@@ -19,7 +19,7 @@ pub(crate) fn put_star(rule: &mut [u8], at: usize, n: u16, form: u16, argument: 
 
 // (child?TEST)*: the argument, or some child of (test until argument and test).
 pub(crate) fn put_down(rule: &mut [u8], at: usize, n: u16, argument: u16) -> usize
-    requires { ⌜ (n ≤ entriesMost) × Room (downEntries argument n) (now rule) at ⌝ }
+    requires { ⌜ (n ≤ entriesMost) × RoomFor (downEntries argument n) (now rule) at ⌝ }
     ensures { λ r. ⌜ Spelt (downEntries argument n) (now (rule .entry)) at r (now (rule .exit)) ⌝ }
 {
     let test = last(n);
@@ -32,7 +32,7 @@ pub(crate) fn put_down(rule: &mut [u8], at: usize, n: u16, argument: u16) -> usi
 // The other three: (neighbour passes the test) until argument. Kinds 7 to 9 and 11 to 13 are forms
 // 15 to 17 less 8 and less 4.
 pub(crate) fn put_beside(rule: &mut [u8], at: usize, n: u16, form: u16, argument: u16) -> usize
-    requires { ⌜ (8 ≤ form) × Room (besideEntries form argument n) (now rule) at ⌝ }
+    requires { ⌜ (8 ≤ form) × RoomFor (besideEntries form argument n) (now rule) at ⌝ }
     ensures { λ r. ⌜ Spelt (besideEntries form argument n) (now (rule .entry)) at r (now (rule .exit)) ⌝ }
 {
     let passes = put_record(rule, at, form - 8, last(n), 0);

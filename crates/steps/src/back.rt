@@ -6,7 +6,7 @@ ghost use lib.Bits.{bitOr};
 ghost use Rattle.numbers.specs.Bits.{bit, bitAt, inWord};
 ghost use Rattle.steps.specs.Steps.{backStep};
 use crate::word::bit_where;
-use crate::word::put_number;
+use crate::word::put_low_bit;
 use numbers::bits::WORD_BITS;
 
 // As a number, whether the word w has bit b, or bit a and, where `there`, the word v bit i.
@@ -23,8 +23,8 @@ pub fn back_word(until: bool, a: usize, b: usize, i: usize, there: bool, v: u64,
     ensures { λ r. ⌜ r ≡ bitOr w (bit (backStep until (bitAt w (inWord a)) (bitAt w (inWord b)) (there && bitAt v (inWord a)) (there && bitAt v (inWord i))) * 2 ^ inWord i) ⌝ }
 {
     if until {
-        put_number(w, i, until_mark(a, b, i, there, v, w))
+        put_low_bit(w, i, until_mark(a, b, i, there, v, w))
     } else {
-        put_number(w, i, bit_where(v, a, there))
+        put_low_bit(w, i, bit_where(v, a, there))
     }
 }

@@ -22,14 +22,14 @@ pub fn bit_where(w: u64, a: usize, there: bool) -> u64
 }
 
 // The bits below i of a word, and bit i set or not.
-pub fn with_bit(w: u64, i: usize, on: bool) -> u64
+pub fn low_with_bit(w: u64, i: usize, on: bool) -> u64
     ensures { λ r. ⌜ r ≡ bit on * 2 ^ inWord i + w % 2 ^ inWord i ⌝ }
 {
     (w & ((1 << (i % WORD_BITS)) - 1)) | ((on as u64) << (i % WORD_BITS))
 }
 
 // A word with bit i set too, or as it was, by a number's lowest bit: no mask is needed.
-pub fn put_number(w: u64, i: usize, on: u64) -> u64
+pub fn put_low_bit(w: u64, i: usize, on: u64) -> u64
     ensures { λ r. ⌜ r ≡ bitOr w (on % 2 * 2 ^ inWord i) ⌝ }
 {
     w | ((on % 2) << (i % WORD_BITS))
@@ -39,5 +39,5 @@ pub fn put_number(w: u64, i: usize, on: u64) -> u64
 pub fn put_bit(w: u64, i: usize, on: bool) -> u64
     ensures { λ r. ⌜ r ≡ bitOr w (bit on * 2 ^ inWord i) ⌝ }
 {
-    put_number(w, i, on as u64)
+    put_low_bit(w, i, on as u64)
 }

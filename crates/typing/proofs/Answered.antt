@@ -30,7 +30,7 @@ use Rattle.parse.specs.declared.tree.Outcome.{Outcome}
 use Rattle.parse.specs.declared.tree.Outcome.the-variants as O
 use Rattle.parse.proofs.HeldLaws.{text-held}
 use Rattle.typing.specs.declared.export.PathReply.{PathReply}
-use Rattle.typing.specs.Typed.{replyOf, Typed}
+use Rattle.typing.specs.Typed.{pathReply, Typed}
 
 -- ---- room
 
@@ -61,7 +61,7 @@ counted e = rw e
 module _ (text rule : List ℕ) where
   -- What is refused leaves the buffer.
   typed-refused : {a : Answer} {es : List Entry} (number place : ℕ) {r : PathReply} → TextGets text a es → pathOutcome a es (length rule) ≡ Refused number place
-      → r ≡ replyOf (Refused number place) [] → Typed text rule r rule
+      → r ≡ pathReply (Refused number place) [] → Typed text rule r rule
   typed-refused {a} {es} number place g e q =
       record { answer = a; entries = es; gets = g; reply-is = rw e q; buffer = rw e (sym (over-none rule)) }
 
@@ -72,7 +72,7 @@ module _ (text rule : List ℕ) where
     go (no-text z h k) = omega (arith, z .few, k .within)
 
   pub typed-stopped : (o : Outcome) (rows : List ℕ) (p : ℕ) (r : PathReply) → o ≡ O.Stopped p → TreeRead text o rows
-      → r ≡ replyOf (Refused 13 p) [] → Typed text rule r rule
+      → r ≡ pathReply (Refused 13 p) [] → Typed text rule r rule
   typed-stopped o rows p r e x q =
       let y : TreeRead text (O.Stopped p) rows = rw e at x in typed-refused 13 p (y .0) (outcome-refused 13 p [] (length rule)) q
 
@@ -81,12 +81,12 @@ module _ (text rule : List ℕ) where
     abbrev whole : TreeRead text (O.Text n b) rows
     whole = rw e at x
 
-    pub typed-many : (r : PathReply) → entriesMost < n → r ≡ replyOf (Refused 14 0) [] → Typed text rule r rule
+    pub typed-many : (r : PathReply) → entriesMost < n → r ≡ pathReply (Refused 14 0) [] → Typed text rule r rule
     typed-many r l q =
         let (t, y, i, j, h) = whole in typed-refused 14 0 (is-text y) (outcome-many _ (tableOf t) (length rule) (omega arith)) q
 
     module _ (few : n ≤ entriesMost) where
-      pub typed-short : (r : PathReply) → length rule < b → r ≡ replyOf (Refused 9 0) [] → Typed text rule r rule
+      pub typed-short : (r : PathReply) → length rule < b → r ≡ pathReply (Refused 9 0) [] → Typed text rule r rule
       typed-short r l q =
           let (t, y, i, j, h) = whole in
           typed-refused 9 0 (is-text y) (outcome-short _ (tableOf t) (length rule) (omega arith) (omega arith)) q
@@ -141,23 +141,23 @@ module _ (text rule : List ℕ) (r : PathReply) (after : List ℕ) (x : Typed te
   room = length rule
 
   -- Whatever the string gets as a text, the reply and the buffer are what that comes to.
-  reply-told : {a : Answer} {es : List Entry} → TextGets text a es → r ≡ replyOf (pathOutcome a es room) (ruleBytes es)
+  reply-told : {a : Answer} {es : List Entry} → TextGets text a es → r ≡ pathReply (pathOutcome a es room) (ruleBytes es)
   reply-told g = let (i, j) = gets-only text (x .gets) g in x .reply-is ∙ rw (i, j)
 
   buffer-told : {a : Answer} {es : List Entry} → TextGets text a es → after ≡ over (bytesGiven a es room) rule
   buffer-told g = let (i, j) = gets-only text (x .gets) g in x .buffer ∙ rw (i, j)
 
   -- So is each row: the string is no text, or it is one with too many entries, with too little room, or with neither.
-  refused-told : (p : ℕ) → TextGets text (Refused 13 p) [] → (r ≡ replyOf (Refused 13 p) []) × (after ≡ rule)
+  refused-told : (p : ℕ) → TextGets text (Refused 13 p) [] → (r ≡ pathReply (Refused 13 p) []) × (after ≡ rule)
   refused-told p g =
       (reply-told g ∙ rw (outcome-refused 13 p [] room), buffer-told g ∙ rw (outcome-refused 13 p [] room) (over-none rule))
 
   module _ {t : Test} (y : TextOf text t) where
-    many-told : entriesMost < length (tableOf t) → (r ≡ replyOf (Refused 14 0) []) × (after ≡ rule)
+    many-told : entriesMost < length (tableOf t) → (r ≡ pathReply (Refused 14 0) []) × (after ≡ rule)
     many-told l =
         let e = outcome-many (length (tableOf t)) (tableOf t) room l in (reply-told (is-text y) ∙ rw e, buffer-told (is-text y) ∙ rw e (over-none rule))
 
-    short-told : (length (tableOf t) ≤ entriesMost) × (room < length (bytesFor t)) → (r ≡ replyOf (Refused 9 0) []) × (after ≡ rule)
+    short-told : (length (tableOf t) ≤ entriesMost) × (room < length (bytesFor t)) → (r ≡ pathReply (Refused 9 0) []) × (after ≡ rule)
     short-told (l, m) =
         let e = outcome-short (length (tableOf t)) (tableOf t) room l m in
         (reply-told (is-text y) ∙ rw e, buffer-told (is-text y) ∙ rw e (over-none rule))

@@ -9,7 +9,7 @@ use Rattle.terms.specs.declared.kind.Axis.the-variants.{Child as child, Parent 
 use Rattle.paths.specs.Syntax.{Test, everywhere, labelled, except, either, begins, Path, only, _then_, Step, along, along*, passing, while}
 use Rattle.paths.specs.Translation.{neighbourKind, untilKind, putT, putP, putS}
 use Rattle.spell.specs.Filled.{partEntries}
-use Rattle.parse.specs.Rows.{formOf, Row, HeldT, HeldP, HeldS}
+use Rattle.parse.specs.Rows.{formOf, RowHas, HeldT, HeldP, HeldS}
 use Rattle.typing.specs.declared.part.Part.{Part}
 use Rattle.typing.specs.Writing.{partAt, putSteps, HeldSteps}
 use Rattle.typing.proofs.Trees.{lastPlain, lastTested, true-puts, label-puts, not-puts, or-puts, path-puts, along-puts, along*-puts, passing-puts, while-puts, turned}
@@ -69,7 +69,7 @@ pub record Says (rows : List ℕ) (n : ℕ) (p : Part) : Type 0 where
 
 module _ {rows : List ℕ} {n : ℕ} {p : Part} (s : Says rows n p) where
   -- A row is read as it was noted.
-  read : {form a b : ℕ} → Row rows n form a b → (p .form ≡ form) × (p .first ≡ a) × (p .second ≡ b)
+  read : {form a b : ℕ} → RowHas rows n form a b → (p .form ≡ form) × (p .first ≡ a) × (p .second ≡ b)
   read r = rw (s .part-is) (r .is-form, r .is-a, r .is-b)
 
   -- A path's form is that of a step.

@@ -16,8 +16,8 @@ use Rattle.typing.specs.declared.export.PathReply.{PathReply}
 
 -- What an outcome comes to, as plain numbers: its number and place, and how many of the rule's bytes are written, none where it is a
 -- refusal.
-abbrev pub replyOf : Answer → (bytes : List ℕ) → PathReply
-replyOf a bytes = record { number = numberOf a; place = placeOf a; written = length (whereAccepted a bytes) }
+abbrev pub pathReply : Answer → (bytes : List ℕ) → PathReply
+pathReply a bytes = record { number = numberOf a; place = placeOf a; written = length (whereAccepted a bytes) }
 
 -- The string gets an answer as a text, with entries. The reply is what that comes to, the buffer being the room; and the bytes that are
 -- given stand at the front of the buffer, and every byte past them is as it was.
@@ -25,5 +25,5 @@ pub record Typed (text rule : List ℕ) (r : PathReply) (after : List ℕ) : Typ
   pub answer : Answer
   pub entries : List Entry
   pub gets : TextGets text answer entries
-  pub reply-is : r ≡ replyOf (pathOutcome answer entries (length rule)) (ruleBytes entries)
+  pub reply-is : r ≡ pathReply (pathOutcome answer entries (length rule)) (ruleBytes entries)
   pub buffer : after ≡ over (bytesGiven answer entries (length rule)) rule

@@ -2,7 +2,7 @@
 ghost use mathlib.Core.Path.{_≡_};
 ghost use mathlib.Core.List.{[]};
 ghost use Rattle.terms.specs.declared.answer.Answer.the-variants.{Refused};
-ghost use Rattle.typing.specs.Typed.{replyOf, Typed};
+ghost use Rattle.typing.specs.Typed.{pathReply, Typed};
 use crate::write::write_rule;
 use parse::tree::Outcome;
 use parse::tree::ROW_PLACES;
@@ -19,7 +19,7 @@ pub struct PathReply {
 
 // Nothing is written.
 fn refused(number: u32, place: u32) -> PathReply
-    ensures { λ r. ⌜ r ≡ replyOf (Refused number place) [] ⌝ }
+    ensures { λ r. ⌜ r ≡ pathReply (Refused number place) [] ⌝ }
 {
     PathReply {
         number: number,

@@ -28,7 +28,7 @@ use Rattle.words.specs.declared.begins.Begin.{Begin}
 use Rattle.words.specs.declared.begins.Begin.the-variants as B
 use Rattle.words.specs.declared.begins.Start.{Start}
 use Rattle.words.specs.declared.begins.Start.the-variants as S
-use Rattle.words.specs.Words.{headOf, wordAt, digitsOf, numberOf}
+use Rattle.words.specs.Words.{headOf, fixedAt, digitsOf, numeralOf}
 use Rattle.words.specs.Begins.{leafTree, trueOf, labelOf, notOf, lettersAt, beginAt, namedOf, namedAt, axisAt, stepOf, stepAt, startAt}
 use Rattle.words.proofs.Reading.{WordAt, OrAt, NumberAt, Lettered, LettersAt, BeginsAt, AxisAt, While, StartAt}
 use Rattle.words.proofs.WordLaws.{by-test, front, word-says, number-law}
@@ -38,11 +38,11 @@ use Rattle.terms.specs.Limits.{labelMost}
 
 -- `or`, with its space where a word stands before.
 module _ (w : Bool) (s : List ℕ) (at : ℕ) where
-  pub or-spaced : w ≡ true → wordAt (32 ∷ 111 ∷ 114 ∷ []) s at ≡ wordAt (gap w ++ orWord) s at
+  pub or-spaced : w ≡ true → fixedAt (32 ∷ 111 ∷ 114 ∷ []) s at ≡ fixedAt (gap w ++ orWord) s at
   unfolding ascii
   or-spaced e = rw e
 
-  pub or-close : w ≡ false → wordAt (111 ∷ 114 ∷ []) s at ≡ wordAt (gap w ++ orWord) s at
+  pub or-close : w ≡ false → fixedAt (111 ∷ 114 ∷ []) s at ≡ fixedAt (gap w ++ orWord) s at
   unfolding ascii
   or-close e = rw e
 
@@ -51,21 +51,21 @@ module _ (s : List ℕ) (r : Word) (e n : ℕ) (q : r ≡ At e) (i : n ≡ digit
   pub label-bare : n ≡ 0 → B.Nothing e ≡ labelOf s r
   label-bare h = rw (q, ← i, h)
 
-  pub label-whole : (v : ℕ) → (n ≡ 0 → ⊥) → v ≡ numberOf (drop e s) → B.Leaf (e + n) v ≡ labelOf s r
+  pub label-whole : (v : ℕ) → (n ≡ 0 → ⊥) → v ≡ numeralOf (drop e s) → B.Leaf (e + n) v ≡ labelOf s r
   label-whole v h j = rw (q, ← i, ← j, ne-eqb n 0 h)
 
 -- The byte at the cursor decides.
 module _ (s : List ℕ) (at b : ℕ) (e : b ≡ headOf (drop at s)) where
   module _ (r : Word) where
-    pub letters-true : b ≡ 116 → r ≡ wordAt trueWord s at → trueOf r ≡ lettersAt s at
+    pub letters-true : b ≡ 116 → r ≡ fixedAt trueWord s at → trueOf r ≡ lettersAt s at
     unfolding lettersAt
     letters-true h x = rw (← e, h, x)
 
-    pub letters-label : b ≡ 108 → r ≡ wordAt (ascii "label ") s at → labelOf s r ≡ lettersAt s at
+    pub letters-label : b ≡ 108 → r ≡ fixedAt (ascii "label ") s at → labelOf s r ≡ lettersAt s at
     unfolding lettersAt
     letters-label h x = rw (← e, h, x)
 
-    pub letters-not : b ≡ 110 → r ≡ wordAt notWord s at → notOf r ≡ lettersAt s at
+    pub letters-not : b ≡ 110 → r ≡ fixedAt notWord s at → notOf r ≡ lettersAt s at
     unfolding lettersAt
     letters-not h x = rw (← e, h, x)
 
@@ -160,7 +160,7 @@ axis-kinded : (s : List ℕ) (at : ℕ) → Kinded (axisAt s at)
 unfolding axisAt
 axis-kinded s at =
     let b = headOf (drop at s) in
-    let kinded : (a : Axis) → Kinded (namedAt a s at) = λ a. named-kind a (wordAt (axisWord a) s at) in
+    let kinded : (a : Axis) → Kinded (namedAt a s at) = λ a. named-kind a (fixedAt (axisWord a) s at) in
     by-test Kinded (eqb b 99) (λ t. kinded child)
     (λ t. by-test Kinded (eqb b 112) (λ t. kinded parent)
     (λ t. by-test Kinded (eqb b 114) (λ t. kinded right) (λ t. by-test Kinded (eqb b 108) (λ t. kinded left) (λ t. tt))))
@@ -183,7 +183,7 @@ or-law true s at (At e) (a, b, q) = (omega arith, b, q)
 or-law false s at (At e) (a, b, q) = (omega arith, b, q)
 or-law w s at (Missing p) (b, k) = (b, λ K. or-words w K (drop at s) ∙ k w K)
 
-pub or-says : (w : Bool) (s : List ℕ) (at : ℕ) → at ≤ length s → (r : Word) → r ≡ wordAt (gap w ++ orWord) s at → OrAt w s at r
+pub or-says : (w : Bool) (s : List ℕ) (at : ℕ) → at ≤ length s → (r : Word) → r ≡ fixedAt (gap w ++ orWord) s at → OrAt w s at r
 or-says w s at m r e = or-law w s at r (word-says (gap w ++ orWord) s at m r e)
 
 -- ---- a test that begins with a letter
@@ -247,20 +247,20 @@ module _ (s : List ℕ) (at : ℕ) where
     go (b ∷ l) h1 h2 h3 K = rw (ne-eqb b 116 h1, ne-eqb b 108 h2, ne-eqb b 110 h3)
 
   module _ (m : at ≤ length s) where
-    true-law : headOf (drop at s) ≡ 116 → LettersAt s at (trueOf (wordAt trueWord s at))
-    true-law h = go (wordAt trueWord s at) (word-says trueWord s at m _ refl) where
+    true-law : headOf (drop at s) ≡ 116 → LettersAt s at (trueOf (fixedAt trueWord s at))
+    true-law h = go (fixedAt trueWord s at) (word-says trueWord s at m _ refl) where
       go : (r : Word) → WordAt trueWord s at r → LettersAt s at (trueOf r)
       go (At e) x = true-there e x
       go (Missing p) x = true-missing p h x
 
-    not-law : headOf (drop at s) ≡ 110 → LettersAt s at (notOf (wordAt notWord s at))
-    not-law h = go (wordAt notWord s at) (word-says notWord s at m _ refl) where
+    not-law : headOf (drop at s) ≡ 110 → LettersAt s at (notOf (fixedAt notWord s at))
+    not-law h = go (fixedAt notWord s at) (word-says notWord s at m _ refl) where
       go : (r : Word) → WordAt notWord s at r → LettersAt s at (notOf r)
       go (At e) x = not-there e x
       go (Missing p) x = not-missing p h x
 
-    label-law : headOf (drop at s) ≡ 108 → LettersAt s at (labelOf s (wordAt (ascii "label ") s at))
-    label-law h = go (wordAt (ascii "label ") s at) (word-says (ascii "label ") s at m _ refl) where
+    label-law : headOf (drop at s) ≡ 108 → LettersAt s at (labelOf s (fixedAt (ascii "label ") s at))
+    label-law h = go (fixedAt (ascii "label ") s at) (word-says (ascii "label ") s at m _ refl) where
       go : (r : Word) → WordAt (ascii "label ") s at r → LettersAt s at (labelOf s r)
       go (At e) x =
           let n = digitsOf (drop e s) in
@@ -395,7 +395,7 @@ module _ (s : List ℕ) (at : ℕ) where
       (λ f4. axis-none m (eqb-false b 99 f1) (eqb-false b 112 f2) (eqb-false b 114 f3) (eqb-false b 108 f4))))) where
         of : (a : Axis) → eqb (headOf (drop at s)) (letterOf a) ≡ true → AxisAt s at (namedAt a s at)
         of a t =
-            axis-word a (eqb-true (headOf (drop at s)) (letterOf a) t ∙ first-of a) (wordAt (axisWord a) s at) (word-says (axisWord a) s at m _ refl)
+            axis-word a (eqb-true (headOf (drop at s)) (letterOf a) t ∙ first-of a) (fixedAt (axisWord a) s at) (word-says (axisWord a) s at m _ refl)
 
 -- ---- steps
 

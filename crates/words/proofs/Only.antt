@@ -9,7 +9,7 @@ use Rattle.paths.specs.Spelling.{gap, orWord}
 use Rattle.words.specs.declared.words.Word.{Word}
 use Rattle.words.specs.declared.begins.Begin.{Begin}
 use Rattle.words.specs.declared.begins.Start.{Start}
-use Rattle.words.specs.Words.{headOf, wordAt}
+use Rattle.words.specs.Words.{headOf, fixedAt}
 use Rattle.words.specs.Begins.{beginAt, startAt}
 
 -- The byte at a cursor.
@@ -17,11 +17,11 @@ pub byte-at-only : (s : List ℕ) (at : ℕ) {r r′ : ℕ} → r ≡ headOf (dr
 byte-at-only s at p q = only p q
 
 -- Where a word ends or is missing.
-pub word-at-only : (x s : List ℕ) (at : ℕ) {r r′ : Word} → r ≡ wordAt x s at → r′ ≡ wordAt x s at → r ≡ r′
-word-at-only x s at p q = only p q
+pub fixed-at-only : (x s : List ℕ) (at : ℕ) {r r′ : Word} → r ≡ fixedAt x s at → r′ ≡ fixedAt x s at → r ≡ r′
+fixed-at-only x s at p q = only p q
 
 -- .. `or`.
-pub or-at-only : (after : Bool) (s : List ℕ) (at : ℕ) {r r′ : Word} → r ≡ wordAt (gap after ++ orWord) s at → r′ ≡ wordAt (gap after ++ orWord) s at → r ≡ r′
+pub or-at-only : (after : Bool) (s : List ℕ) (at : ℕ) {r r′ : Word} → r ≡ fixedAt (gap after ++ orWord) s at → r′ ≡ fixedAt (gap after ++ orWord) s at → r ≡ r′
 or-at-only after s at p q = only p q
 
 -- What a test begins with.

@@ -21,7 +21,7 @@ use Rattle.paths.proofs.Sound.{decimal-behind}
 use Rattle.paths.proofs.Descent.{Stops, agree, word-stops}
 use Rattle.words.specs.declared.words.Word.{Word}
 use Rattle.words.specs.declared.words.Word.the-variants.{At, Missing}
-use Rattle.words.specs.Words.{headOf, digitFrom, wordAt, noDigit, digitOf, digitsOf, numberOf}
+use Rattle.words.specs.Words.{headOf, digitFrom, fixedAt, noDigit, digitOf, digitsOf, numeralOf}
 use Rattle.words.proofs.Reading.{WordAt, NumberAt}
 
 -- ---- tests
@@ -117,17 +117,17 @@ module _ (x s : List ℕ) (at : ℕ) where
   agree-past l = rw (drop-of-length-le s l) (sym (agree-nil x))
 
   module _ (k : ℕ) (e : k ≡ agree x (drop at s)) where
-    pub word-whole : k ≡ length x → At (at + k) ≡ wordAt x s at
-    unfolding wordAt
+    pub word-whole : k ≡ length x → At (at + k) ≡ fixedAt x s at
+    unfolding fixedAt
     word-whole f = rw (← e, eq-eqb k (length x) f)
 
-    pub word-cut : (k ≡ length x → ⊥) → Missing (at + k) ≡ wordAt x s at
-    unfolding wordAt
+    pub word-cut : (k ≡ length x → ⊥) → Missing (at + k) ≡ fixedAt x s at
+    unfolding fixedAt
     word-cut f = rw (← e, ne-eqb k (length x) f)
 
   module _ (inside : at ≤ length s) where
-    word-law : WordAt x s at (wordAt x s at)
-    unfolding wordAt
+    word-law : WordAt x s at (fixedAt x s at)
+    unfolding fixedAt
     word-law = by-test (WordAt x s at) (eqb (agree x (drop at s)) (length x)) there missing where
       there : eqb (agree x (drop at s)) (length x) ≡ true → WordAt x s at (At (at + agree x (drop at s)))
       there t =
@@ -142,7 +142,7 @@ module _ (x s : List ℕ) (at : ℕ) where
           )
 
     -- What a word that was looked for says.
-    pub word-says : (r : Word) → r ≡ wordAt x s at → WordAt x s at r
+    pub word-says : (r : Word) → r ≡ fixedAt x s at → WordAt x s at r
     word-says r e = rw e word-law
 
 -- ---- numbers
@@ -247,20 +247,20 @@ module _ (s : List ℕ) where
 -- The tests of three bytes give the digits of a number, and what the digits count gives its value.
 module _ (s : List ℕ) (at : ℕ) where
   abbrev pub Number : ℕ → ℕ → Type 0
-  Number k v = (k ≡ digitsOf (drop at s)) × (v ≡ numberOf (drop at s))
+  Number k v = (k ≡ digitsOf (drop at s)) × (v ≡ numeralOf (drop at s))
 
   -- The value of so many digits.
-  value-one : (v : ℕ) (t : List ℕ) → 1 ≡ digitsOf (drop at s) → drop at s ≡ digit v ∷ t → v ≡ numberOf (drop at s)
-  unfolding numberOf valueFrom
+  value-one : (v : ℕ) (t : List ℕ) → 1 ≡ digitsOf (drop at s) → drop at s ≡ digit v ∷ t → v ≡ numeralOf (drop at s)
+  unfolding numeralOf valueFrom
   value-one v t n q = rw (← n, q) (omega arith)
 
-  value-two : (v w : ℕ) (t : List ℕ) → 2 ≡ digitsOf (drop at s) → drop at s ≡ digit v ∷ digit w ∷ t → 10 * v + w ≡ numberOf (drop at s)
-  unfolding numberOf valueFrom
+  value-two : (v w : ℕ) (t : List ℕ) → 2 ≡ digitsOf (drop at s) → drop at s ≡ digit v ∷ digit w ∷ t → 10 * v + w ≡ numeralOf (drop at s)
+  unfolding numeralOf valueFrom
   value-two v w t n q = rw (← n, q) (omega arith)
 
   value-three : (v w u : ℕ) (t : List ℕ) → 3 ≡ digitsOf (drop at s) → drop at s ≡ digit v ∷ digit w ∷ digit u ∷ t
-      → 10 * (10 * v + w) + u ≡ numberOf (drop at s)
-  unfolding numberOf valueFrom
+      → 10 * (10 * v + w) + u ≡ numeralOf (drop at s)
+  unfolding numeralOf valueFrom
   value-three v w u t n q = rw (← n, q) (omega arith)
 
   module _ (e : digitFrom 49 (drop at s) ≡ true) where
@@ -277,7 +277,7 @@ module _ (s : List ℕ) (at : ℕ) where
     count-three f g = rw (e, drop-drop 1 at s, f, drop-drop 2 at s, g)
 
   no-number : digitFrom 49 (drop at s) ≡ false → Number 0 0
-  unfolding digitsOf numberOf valueFrom
+  unfolding digitsOf numeralOf valueFrom
   no-number e = (rw e, rw e)
 
   one-digit : (v : ℕ) → digitFrom 49 (drop at s) ≡ true → digitFrom 48 (drop (at + 1) s) ≡ false → v ≡ headOf (drop at s) - 48 → Number 1 v
@@ -301,15 +301,15 @@ module _ (s : List ℕ) (at : ℕ) where
       let o = digit-front s 48 (at + 2) u (omega arith) g z .3 in
       (n, value-three v w u _ n (q ∙ ap (_∷_ (digit v)) (r ∙ ap (_∷_ (digit w)) o)))
 
-  same-number : (k v : ℕ) → Number k v → NumberAt s at k v → NumberAt s at (digitsOf (drop at s)) (numberOf (drop at s))
+  same-number : (k v : ℕ) → Number k v → NumberAt s at k v → NumberAt s at (digitsOf (drop at s)) (numeralOf (drop at s))
   same-number k v (e, f) h =
-      subst (λ (n : ℕ). NumberAt s at n (numberOf (drop at s))) e (subst (λ (m : ℕ). NumberAt s at k m) f h)
+      subst (λ (n : ℕ). NumberAt s at n (numeralOf (drop at s))) e (subst (λ (m : ℕ). NumberAt s at k m) f h)
 
   -- What the number at a cursor says.
-  pub number-law : NumberAt s at (digitsOf (drop at s)) (numberOf (drop at s))
+  pub number-law : NumberAt s at (digitsOf (drop at s)) (numeralOf (drop at s))
   number-law = go _ refl _ refl _ refl where
     go : (a : Bool) → digitFrom 49 (drop at s) ≡ a → (b : Bool) → digitFrom 48 (drop (at + 1) s) ≡ b → (c : Bool) → digitFrom 48 (drop (at + 2) s) ≡ c
-        → NumberAt s at (digitsOf (drop at s)) (numberOf (drop at s))
+        → NumberAt s at (digitsOf (drop at s)) (numeralOf (drop at s))
     go false e b f c g = same-number 0 0 (no-number e) (number-none s at 0 e)
     go true e false f c g = same-number 1 _ (one-digit _ e f refl) (number-one s at _ e f refl)
     go true e true f false g = same-number 2 _ (two-digits _ _ e f g refl refl) (number-two s at _ _ e f g refl refl)
@@ -318,7 +318,7 @@ module _ (s : List ℕ) (at : ℕ) where
   -- The digits stand before the end.
   pub digits-fit : at + digitsOf (drop at s) ≤ at + (length s - at)
   digits-fit = go (digitsOf (drop at s)) number-law where
-    go : (k : ℕ) → NumberAt s at k (numberOf (drop at s)) → at + k ≤ at + (length s - at)
+    go : (k : ℕ) → NumberAt s at k (numeralOf (drop at s)) → at + k ≤ at + (length s - at)
     go zero h = omega arith
     go (suc k) h = omega (arith, h .0)
 

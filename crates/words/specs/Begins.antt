@@ -21,7 +21,7 @@ use Rattle.words.specs.declared.begins.Begin.{Begin}
 use Rattle.words.specs.declared.begins.Begin.the-variants as B
 use Rattle.words.specs.declared.begins.Start.{Start}
 use Rattle.words.specs.declared.begins.Start.the-variants as S
-use Rattle.words.specs.Words.{headOf, wordAt, digitsOf, numberOf}
+use Rattle.words.specs.Words.{headOf, fixedAt, digitsOf, numeralOf}
 
 -- ---- a test
 
@@ -38,7 +38,7 @@ trueOf (Missing p) = B.Nothing p
 -- `label N`: the number stands behind the word and its space.
 abbrev pub labelOf : List ℕ → Word → Begin
 labelOf s (At e) =
-    let n = digitsOf (drop e s) in cond (eqb n 0) (B.Nothing e) (B.Leaf (e + n) (numberOf (drop e s)))
+    let n = digitsOf (drop e s) in cond (eqb n 0) (B.Nothing e) (B.Leaf (e + n) (numeralOf (drop e s)))
 labelOf s (Missing p) = B.Nothing p
 
 -- `not`.
@@ -50,8 +50,8 @@ notOf (Missing p) = B.Nothing p
 unfoldable pub lettersAt : (s : List ℕ) (at : ℕ) → Begin
 lettersAt s at =
     let b = headOf (drop at s) in
-    cond (eqb b 116) (trueOf (wordAt trueWord s at))
-    (cond (eqb b 108) (labelOf s (wordAt (ascii "label ") s at)) (cond (eqb b 110) (notOf (wordAt notWord s at)) (B.Nothing at)))
+    cond (eqb b 116) (trueOf (fixedAt trueWord s at))
+    (cond (eqb b 108) (labelOf s (fixedAt (ascii "label ") s at)) (cond (eqb b 110) (notOf (fixedAt notWord s at)) (B.Nothing at)))
 
 -- A test: `(`, `<`, or a letter, which stands behind a space where a word stands before.
 unfoldable pub beginAt : (after : Bool) (s : List ℕ) (at : ℕ) → Begin
@@ -69,7 +69,7 @@ namedOf kind (Missing p) = N.None p
 
 -- The word of an axis, with the kind of one step along it.
 abbrev pub namedAt : Axis → (s : List ℕ) (at : ℕ) → Named
-namedAt a s at = namedOf (neighbourKind a) (wordAt (axisWord a) s at)
+namedAt a s at = namedOf (neighbourKind a) (fixedAt (axisWord a) s at)
 
 -- An axis.
 unfoldable pub axisAt : (s : List ℕ) (at : ℕ) → Named

@@ -29,8 +29,8 @@ unfoldable pub digitOf : (low : ℕ) → List ℕ → ℕ
 digitOf low s = cond (digitFrom low s) (headOf s - 48) noDigit
 
 -- The word x at the cursor: it stands there whole and ends so; or it is missing where its bytes no longer agree.
-unfoldable pub wordAt : (x s : List ℕ) (at : ℕ) → Word
-wordAt x s at =
+unfoldable pub fixedAt : (x s : List ℕ) (at : ℕ) → Word
+fixedAt x s at =
     let k = agree x (drop at s) in cond (eqb k (length x)) (At (at + k)) (Missing (at + k))
 
 -- How many digits the number at the front has, 1 to 3 and the first not 0; 0 where there is no number.
@@ -38,5 +38,5 @@ unfoldable pub digitsOf : List ℕ → ℕ
 digitsOf s = cond (digitFrom 49 s) (cond (digitFrom 48 (drop 1 s)) (cond (digitFrom 48 (drop 2 s)) 3 2) 1) 0
 
 -- .. and what they say, 0 where there is none.
-unfoldable pub numberOf : List ℕ → ℕ
-numberOf s = valueOf (take (digitsOf s) s)
+unfoldable pub numeralOf : List ℕ → ℕ
+numeralOf s = valueOf (take (digitsOf s) s)

@@ -2,12 +2,12 @@
 ghost use mathlib.Core.Path.{_≡_};
 ghost use mathlib.Core.List.{_++_};
 ghost use Rattle.paths.specs.Spelling.{gap, orWord};
-ghost use Rattle.words.specs.Words.{wordAt};
+ghost use Rattle.words.specs.Words.{fixedAt};
 ghost use Rattle.words.specs.Begins.{trueOf, labelOf, notOf, lettersAt, beginAt, namedOf, axisAt, stepAt, startAt};
 use crate::words::Word;
 use crate::words::byte_at;
-use crate::words::number_at;
-use crate::words::word_at;
+use crate::words::fixed_at;
+use crate::words::numeral_at;
 
 // An axis: its end, and the kind of one step along it.
 pub(crate) enum Named {
@@ -36,12 +36,12 @@ pub enum Start {
 
 // `or`, behind a space where a word stands before.
 pub fn or_at(s: &[u8], at: usize, after: bool) -> Word
-    ensures { λ r. ⌜ r ≡ wordAt (gap after ++ orWord) (now (s .entry)) at ⌝ }
+    ensures { λ r. ⌜ r ≡ fixedAt (gap after ++ orWord) (now (s .entry)) at ⌝ }
 {
     if after {
-        word_at(s, at, b" or")
+        fixed_at(s, at, b" or")
     } else {
-        word_at(s, at, b"or")
+        fixed_at(s, at, b"or")
     }
 }
 
@@ -62,7 +62,7 @@ fn label_of(s: &[u8], w: Word) -> Begin
     match w {
         Word::Missing(p) => Begin::Nothing(p),
         Word::At(e) => {
-            let n = number_at(s, e);
+            let n = numeral_at(s, e);
             if n.digits == 0 {
                 Begin::Nothing(e)
             } else {
@@ -88,13 +88,13 @@ fn letters_at(s: &[u8], at: usize) -> Begin
 {
     let b = byte_at(s, at);
     if b == 116 {
-        return true_of(word_at(s, at, b"true"));
+        return true_of(fixed_at(s, at, b"true"));
     }
     if b == 108 {
-        return label_of(s, word_at(s, at, b"label "));
+        return label_of(s, fixed_at(s, at, b"label "));
     }
     if b == 110 {
-        return not_of(word_at(s, at, b"not"));
+        return not_of(fixed_at(s, at, b"not"));
     }
     Begin::Nothing(at)
 }
@@ -121,9 +121,9 @@ pub fn begins_at(s: &[u8], at: usize, after: bool) -> Begin
 
 // A word that names an axis, as its kind.
 fn named_at(s: &[u8], at: usize, word: &[u8], kind: u16) -> Named
-    ensures { λ r. ⌜ r ≡ namedOf kind (wordAt (now (word .entry)) (now (s .entry)) at) ⌝ }
+    ensures { λ r. ⌜ r ≡ namedOf kind (fixedAt (now (word .entry)) (now (s .entry)) at) ⌝ }
 {
-    match word_at(s, at, word) {
+    match fixed_at(s, at, word) {
         Word::Missing(p) => Named::None(p),
         Word::At(e) => Named::Axis(e, kind),
     }

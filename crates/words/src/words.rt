@@ -3,7 +3,7 @@ ghost use mathlib.Core.Path.{_≡_};
 ghost use Prim.Native.Nat.{_≤_, _<_};
 ghost use lib.ListN.{drop};
 ghost use Rattle.paths.proofs.Descent.{agree};
-ghost use Rattle.words.specs.Words.{headOf, wordAt, noDigit, digitOf, digitsOf, numberOf};
+ghost use Rattle.words.specs.Words.{headOf, fixedAt, noDigit, digitOf, digitsOf, numeralOf};
 
 // What is said of a digit where there is none.
 const NO_DIGIT: u16 = 10;
@@ -53,8 +53,8 @@ fn agreed(s: &[u8], at: usize, word: &[u8]) -> usize
 }
 
 // A fixed word: the bytes that agree give the place where it stops.
-pub fn word_at(s: &[u8], at: usize, word: &[u8]) -> Word
-    ensures { λ r. ⌜ r ≡ wordAt (now (word .entry)) (now (s .entry)) at ⌝ }
+pub fn fixed_at(s: &[u8], at: usize, word: &[u8]) -> Word
+    ensures { λ r. ⌜ r ≡ fixedAt (now (word .entry)) (now (s .entry)) at ⌝ }
 {
     let k = agreed(s, at, word);
     if k == word.len() {
@@ -78,8 +78,8 @@ fn digit_at(s: &[u8], at: usize, low: u8) -> u16
 }
 
 // A number of 1 to 3 digits, the first not 0.
-pub(crate) fn number_at(s: &[u8], at: usize) -> Number
-    ensures { λ r. ⌜ (r .digits ≡ digitsOf (drop at (now (s .entry)))) × (r .value ≡ numberOf (drop at (now (s .entry)))) ⌝ }
+pub(crate) fn numeral_at(s: &[u8], at: usize) -> Number
+    ensures { λ r. ⌜ (r .digits ≡ digitsOf (drop at (now (s .entry)))) × (r .value ≡ numeralOf (drop at (now (s .entry)))) ⌝ }
 {
     let one = digit_at(s, at, 49);
     if one == NO_DIGIT {

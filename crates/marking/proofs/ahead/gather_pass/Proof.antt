@@ -37,14 +37,14 @@ slice-read-bit-where c = omega arith
 bit-where-requires : tie.Need-bit-where-requires Inv-loop μ-loop
 bit-where-requires c κs = search needs
 
-mul-put-number : tie.Need-mul-put-number Inv-loop μ-loop
-mul-put-number c = omega (arith, c .before .before .wide .ensures .0, c .before .before .before .before .before .before .before .before .pre .1 .1 (c .before .before .before .before .before .loop .s) (c .before .before .before .before .loop-test .taken))
+mul-put-low-bit : tie.Need-mul-put-low-bit Inv-loop μ-loop
+mul-put-low-bit c = omega (arith, c .before .before .wide .ensures .0, c .before .before .before .before .before .before .before .before .pre .1 .1 (c .before .before .before .before .before .loop .s) (c .before .before .before .before .loop-test .taken))
 
-slice-read-put-number : tie.Need-slice-read-put-number Inv-loop μ-loop
-slice-read-put-number c = omega (arith, c .before .before .before .wide .ensures .0, c .before .before .before .before .before .before .before .before .before .pre .1 .1 (c .before .before .before .before .before .before .loop .s) (c .before .before .before .before .before .loop-test .taken))
+slice-read-put-low-bit : tie.Need-slice-read-put-low-bit Inv-loop μ-loop
+slice-read-put-low-bit c = omega (arith, c .before .before .before .wide .ensures .0, c .before .before .before .before .before .before .before .before .before .pre .1 .1 (c .before .before .before .before .before .before .loop .s) (c .before .before .before .before .before .loop-test .taken))
 
-put-number-requires : tie.Need-put-number-requires Inv-loop μ-loop
-put-number-requires c κs = search needs
+put-low-bit-requires : tie.Need-put-low-bit-requires Inv-loop μ-loop
+put-low-bit-requires c κs = search needs
 
 mul-marks : tie.Need-mul-marks Inv-loop μ-loop
 mul-marks c = omega (arith, c .before .before .before .before .wide .ensures .0, c .before .before .before .before .before .before .before .before .before .before .pre .1 .1 (c .before .before .before .before .before .before .before .loop .s) (c .before .before .before .before .before .before .loop-test .taken))
@@ -64,7 +64,7 @@ loop-again c =
     let pre = c .before .before .before .before .before .before .before .before .before .before .pre in
     let t = c .before .before .before .before .before .before .loop-test .taken in (
       omega arith,
-      rw (c .put-number .ensures, mod-eq-of-lt (c .before .before .bit-where .ensures .1), c .before .before .bit-where .ensures .0, c .before .before .before .before .wide .ensures .0, own-in (pre .1 .0), earlier-in (pre .1 .0) (pre .0))
+      rw (c .put-low-bit .ensures, mod-eq-of-lt (c .before .before .bit-where .ensures .1), c .before .before .bit-where .ensures .0, c .before .before .before .before .wide .ensures .0, own-in (pre .1 .0), earlier-in (pre .1 .0) (pre .0))
           (gather-turn _ _ _ (pre .1 .0) (pre .0) (l .s) t (pre .1 .1 (l .s) t) (l .inv .1)),
     )
 
@@ -87,9 +87,9 @@ gather-pass-spec =
     mul-bit-where
     slice-read-bit-where
     bit-where-requires
-    mul-put-number
-    slice-read-put-number
-    put-number-requires
+    mul-put-low-bit
+    slice-read-put-low-bit
+    put-low-bit-requires
     mul-marks
     slice-write-marks
     add-s

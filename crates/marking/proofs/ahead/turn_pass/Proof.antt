@@ -30,8 +30,8 @@ slice-read-w c = omega arith
 own-at-requires : tie.Need-own-at-requires Inv-loop μ-loop
 own-at-requires c κs = search needs
 
-with-bit-requires : tie.Need-with-bit-requires Inv-loop μ-loop
-with-bit-requires c κs = search needs
+low-with-bit-requires : tie.Need-low-with-bit-requires Inv-loop μ-loop
+low-with-bit-requires c κs = search needs
 
 mul-marks : tie.Need-mul-marks Inv-loop μ-loop
 mul-marks c = omega arith
@@ -74,7 +74,7 @@ loop-again c =
     let l = c .before .before .before .before .before .before .before .before .before .loop in
     let pre = c .before .before .before .before .before .before .before .before .before .before .before .before .pre in
     let h : l .t - 1 < length (c .before .before .before .before .before .before .before .before .before .before .before .before .args .f .now) = omega arith in
-    rw (c .put-bit .ensures, c .before .before .given-at .ensures, c .before .before .before .before .before .with-bit .ensures, c .before .before .before .before .before .before .own-at .ensures, c .before .before .before .wide .ensures .0, own-in (pre .1 .0), earlier-in (pre .1 .0) (pre .0 .0), earlier-in (pre .1 .0) (pre .0 .1))
+    rw (c .put-bit .ensures, c .before .before .given-at .ensures, c .before .before .before .before .before .low-with-bit .ensures, c .before .before .before .before .before .before .own-at .ensures, c .before .before .before .wide .ensures .0, own-in (pre .1 .0), earlier-in (pre .1 .0) (pre .0 .0), earlier-in (pre .1 .0) (pre .0 .1))
     (ahead-turn _ _ _ _ _ (pre .1 .0) (pre .0 .0) (pre .0 .1) (pre .1 .1 .1) (l .t - 1) h (ahead-before _ _ _ _ _ (omega arith) (l .inv)) (pre .1 .1 .0 (l .t - 1) h))
 
 same-length : tie.Need-same-length Inv-loop μ-loop
@@ -96,7 +96,7 @@ turn-pass-spec =
     mul-w
     slice-read-w
     own-at-requires
-    with-bit-requires
+    low-with-bit-requires
     mul-marks
     slice-write-marks
     mul-wide

@@ -4,8 +4,8 @@ use borrow.Author.Needs.{needs}
 use Rattle.words.proofs.begins.named_at.Statement.{statement}
 use Rattle.words.proofs.begins.named_at.Tie as tie
 
-word-at-requires : tie.Need-word-at-requires
-word-at-requires c κs = search needs
+fixed-at-requires : tie.Need-fixed-at-requires
+fixed-at-requires c κs = search needs
 
 enum-known-p : tie.Need-enum-known-p
 enum-known-p c = search needs
@@ -14,10 +14,10 @@ enum-known-e : tie.Need-enum-known-e
 enum-known-e c = search needs
 
 returns : tie.Need-returns
-returns c = rw (c .before .p .given .1) at (ap (namedOf (c .before .before .before .before .before .before .args .kind)) (c .before .before .before .word-at .ensures))
+returns c = rw (c .before .p .given .1) at (ap (namedOf (c .before .before .before .before .before .before .args .kind)) (c .before .before .before .fixed-at .ensures))
 
 returns-2 : tie.Need-returns-2
-returns-2 c = rw (c .before .e .given .1) at (ap (namedOf (c .before .before .before .before .before .before .args .kind)) (c .before .before .before .word-at .ensures))
+returns-2 c = rw (c .before .e .given .1) at (ap (namedOf (c .before .before .before .before .before .before .args .kind)) (c .before .before .before .fixed-at .ensures))
 
 pub named-at-spec : {M : Type 1} → statement M
-named-at-spec = tie.close (tie.spec word-at-requires enum-known-p enum-known-e returns returns-2)
+named-at-spec = tie.close (tie.spec fixed-at-requires enum-known-p enum-known-e returns returns-2)

@@ -1,10 +1,10 @@
--- `with_bit`: a mask keeps the bits below i. Assumes nothing.
+-- `low_with_bit`: a mask keeps the bits below i. Assumes nothing.
 use native.Mathlib.Omega.{arith}
 use Rattle.numbers.proofs.Masks.{one-shifted, masked-bit}
 use Rattle.numbers.specs.Bits.{inWord}
 use borrow.Author.Needs.{needs}
-use Rattle.steps.proofs.word.with_bit.Statement.{statement}
-use Rattle.steps.proofs.word.with_bit.Tie as tie
+use Rattle.steps.proofs.word.low_with_bit.Statement.{statement}
+use Rattle.steps.proofs.word.low_with_bit.Tie as tie
 
 shl-result : tie.Need-shl-result
 shl-result c = search needs
@@ -21,5 +21,5 @@ shl-result-2 c = search needs
 returns : tie.Need-returns
 returns c = masked-bit (inWord (c .args .i)) (c .args .w) (c .args .on) (omega arith)
 
-pub with-bit-spec : {M : Type 1} → statement M
-with-bit-spec = tie.close (tie.spec shl-result sub-result cast-result shl-result-2 returns)
+pub low-with-bit-spec : {M : Type 1} → statement M
+low-with-bit-spec = tie.close (tie.spec shl-result sub-result cast-result shl-result-2 returns)

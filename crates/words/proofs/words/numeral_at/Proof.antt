@@ -2,8 +2,8 @@ use native.Mathlib.Omega.{arith}
 use Prim.Native.Nat.{_+_}
 use Rattle.words.proofs.WordLaws.{digit-there, none-found, one-found, two-found, three-found}
 use borrow.Author.Needs.{needs}
-use Rattle.words.proofs.words.number_at.Statement.{statement}
-use Rattle.words.proofs.words.number_at.Tie as tie
+use Rattle.words.proofs.words.numeral_at.Statement.{statement}
+use Rattle.words.proofs.words.numeral_at.Tie as tie
 
 digit-at-requires : tie.Need-digit-at-requires
 digit-at-requires c κs = search needs
@@ -50,8 +50,8 @@ add-t13 c = search needs
 returns-4 : tie.Need-returns-4
 returns-4 c = three-found (c .before .before .before .before .before .before .before .args .s .now) (c .before .before .before .before .before .before .before .args .at) (c .before .before .before .before .before .digit-at .result) (c .before .before .before .before .before .digit-at .ensures .0) (c .before .before .before .before .if1 .left) (c .before .before .before .digit-at2 .result) (c .before .before .before .digit-at2 .ensures .0) (c .before .before .if2 .left) (c .before .digit-at3 .result) (c .before .digit-at3 .ensures .0) (c .if3 .left)
 
-pub number-at-spec : {M : Type 1} → statement M
-number-at-spec =
+pub numeral-at-spec : {M : Type 1} → statement M
+numeral-at-spec =
     tie.close
     (tie.spec
     digit-at-requires
