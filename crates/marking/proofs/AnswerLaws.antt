@@ -3,7 +3,7 @@
 use Prim.Native.Nat.{ℕ, pred, _*_, _≤_, _<_}
 use native.Mathlib.Decide.{decLt}
 use native.Mathlib.Omega.{arith}
-use borrow.Author.Tests.{lt-ltb, le-ltb, ltb-false}
+use borrow.Author.Tests.{lt-ltb, le-ltb, ltb-true, ltb-false}
 use mathlib.Core.Path.{_≡_, refl, sym, ap, subst, _∙_}
 use mathlib.Core.Bool.{Bool, true, false, cond}
 use mathlib.Core.List.{List, [], _∷_}
@@ -55,26 +55,31 @@ marked-few {es} {ds} {labels} n levels e h m =
 
 -- ---- once the rule has been read
 
--- The room that the code works out, by the lengths of the columns in which the report is laid out.
-pub room-for-is : {report labels levels ups lefts : List ℕ} (marks : List ℕ) {r : Answer} {ls ds us fs : List ℕ}
-    → LaidOut report labels levels ups lefts r ls ds us fs → (columns room : ℕ) → columns ≡ roomIn ls ds us fs
-    → room ≡ leastOf columns (length marks) → room ≡ roomFor labels levels ups lefts marks
-unfolding roomFor
-room-for-is marks laid columns room p q = q ∙ ap (λ (k : ℕ). leastOf k (length marks)) (p ∙ laid-room laid)
+-- What the code tests, by the lengths of the columns in which the report is laid out, is whether there is room.
+module _ {report labels levels ups lefts : List ℕ} (marks : List ℕ) {r : Answer} {ls ds us fs : List ℕ}
+    (laid : LaidOut report labels levels ups lefts r ls ds us fs) (n : ℕ) (lacks : Bool) (is : lacks ≡ ltb (leastOf (roomIn ls ds us fs) (length marks)) n) where
+  lacks-is : lacks ≡ ltb (roomFor labels levels ups lefts marks) n
+  unfolding roomFor
+  lacks-is = is ∙ ap (λ (k : ℕ). ltb (leastOf k (length marks)) n) (laid-room laid)
+
+  pub room-short : lacks ≡ true → roomFor labels levels ups lefts marks < n
+  room-short h = ltb-true _ n (sym lacks-is ∙ h)
+
+  pub room-enough : lacks ≡ false → n ≤ roomFor labels levels ups lefts marks
+  room-enough h = ltb-false _ n (sym lacks-is ∙ h)
 
 -- All columns have room for what there is room for, and so has the buffer.
-pub room-for-within : (labels levels ups lefts marks : List ℕ) (n room : ℕ) → room ≡ roomFor labels levels ups lefts marks → n ≤ room
+pub room-for-within : (labels levels ups lefts marks : List ℕ) (n : ℕ) → n ≤ roomFor labels levels ups lefts marks
     → (n ≤ roomIn labels levels ups lefts) × (n ≤ length marks)
 unfolding roomFor
-room-for-within labels levels ups lefts marks n room e h =
-    least-within n (roomIn labels levels ups lefts) (length marks) (omega arith)
+room-for-within labels levels ups lefts marks n h = least-within n (roomIn labels levels ups lefts) (length marks) h
 
 -- What the columns hold of an accepted report where there is room.
 pub held : {report labels levels ups lefts : List ℕ} (marks : List ℕ) {r : Answer} {n : ℕ} {ls ds us fs : List ℕ}
-    → LaidOut report labels levels ups lefts r ls ds us fs → r ≡ Accepted n → (room : ℕ) → room ≡ roomFor labels levels ups lefts marks
-    → n ≤ room → ElementsLaid report n ls ds us fs
-held {labels = labels} {levels = levels} {ups = ups} {lefts = lefts} marks {n = n} laid e room is h =
-    elements-laid laid e (room-for-within labels levels ups lefts marks n room is h .0)
+    → LaidOut report labels levels ups lefts r ls ds us fs → r ≡ Accepted n → n ≤ roomFor labels levels ups lefts marks
+    → ElementsLaid report n ls ds us fs
+held {labels = labels} {levels = levels} {ups = ups} {lefts = lefts} marks {n = n} laid e h =
+    elements-laid laid e (room-for-within labels levels ups lefts marks n h .0)
 
 -- They are columns of the report's levels.
 pub columns-held : {report : List ℕ} {n : ℕ} {ls ds us fs : List ℕ} → ElementsLaid report n ls ds us fs
@@ -99,30 +104,30 @@ module _ (es : List Entry) {report labels levels ups lefts : List ℕ} (marks : 
         laid-out = laid-answered;
       }
 
-  module _ {n : ℕ} (e : r ≡ Accepted n) (room : ℕ) (is : room ≡ roomFor labels levels ups lefts marks) where
+  module _ {n : ℕ} (e : r ≡ Accepted n) where
     accepts : Accepted n ≡ reportAnswer report
     accepts = sym e ∙ laid .read .answer
 
     -- The report is accepted, and there is no room for its elements.
-    pub by-short : room < n → MarkedBy es report labels levels ups lefts marks (evaluationOf (Refused 9 0) 0) ls ds us fs marks
+    pub by-short : roomFor labels levels ups lefts marks < n → MarkedBy es report labels levels ups lefts marks (evaluationOf (Refused 9 0) 0) ls ds us fs marks
     unfolding shortOfRoom
     by-short h =
         record {
-          answer = rw (← accepts, lt-ltb (roomFor labels levels ups lefts marks) n (omega arith));
-          marks-are = rw (← accepts, lt-ltb (roomFor labels levels ups lefts marks) n (omega arith)) (over-kept [] marks refl);
+          answer = rw (← accepts, lt-ltb (roomFor labels levels ups lefts marks) n h);
+          marks-are = rw (← accepts, lt-ltb (roomFor labels levels ups lefts marks) n h) (over-kept [] marks refl);
           laid-out = laid-answered;
         }
 
     -- The report is accepted and its elements are marked.
-    pub by-room : {k : ℕ} {after : List ℕ} → n ≤ room → Marked es (take n ds) (take n ls) marks k after
+    pub by-room : {k : ℕ} {after : List ℕ} → n ≤ roomFor labels levels ups lefts marks → Marked es (take n ds) (take n ls) marks k after
         → MarkedBy es report labels levels ups lefts marks (evaluationOf (Accepted n) k) ls ds us fs after
     unfolding shortOfRoom
     by-room {k} {after} h m =
-        let o = held marks laid e room is h in
+        let o = held marks laid e h in
         let q : Marked es (levelsOf report) (labelsOf report) marks k after = rw (o .levels-read, o .labels-read) at m in
         record {
-          answer = rw (← accepts, le-ltb (roomFor labels levels ups lefts marks) n (omega arith)) (ap (evaluationOf (Accepted n)) (q .selected-is));
-          marks-are = rw (← accepts, le-ltb (roomFor labels levels ups lefts marks) n (omega arith)) (q .marks-are);
+          answer = rw (← accepts, le-ltb (roomFor labels levels ups lefts marks) n h) (ap (evaluationOf (Accepted n)) (q .selected-is));
+          marks-are = rw (← accepts, le-ltb (roomFor labels levels ups lefts marks) n h) (q .marks-are);
           laid-out = laid-answered;
         }
 

@@ -7,8 +7,7 @@ ghost use Rattle.terms.specs.Limits.{reportMost};
 ghost use Rattle.terms.specs.declared.answer.Answer.the-variants.{Refused};
 ghost use Rattle.marking.specs.Evaluation.{evaluationOf, MarkedBy, ReportMarked};
 use crate::elements::mark_elements;
-use layout::columns::least;
-use layout::columns::least_of_four;
+use layout::columns::lacks_room;
 use layout::layout::lay_out;
 use rules::table::ENTRY_PLACES;
 use rules::table::read_entries;
@@ -59,8 +58,14 @@ fn mark_by_entries(
 {
     match lay_out(report, labels, levels, ups, lefts) {
         Answer::Accepted(n) => {
-            let columns = least_of_four(labels.len(), levels.len(), ups.len(), lefts.len());
-            if least(columns, marks.len()) < n {
+            if lacks_room(
+                labels.len(),
+                levels.len(),
+                ups.len(),
+                lefts.len(),
+                marks.len(),
+                n,
+            ) {
                 return refuse(9, 0);
             }
             let selected = mark_elements(entries, table, n, labels, ups, lefts, marks);

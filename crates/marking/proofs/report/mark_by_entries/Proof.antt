@@ -3,7 +3,7 @@ use native.Mathlib.Omega.{arith}
 use mathlib.Core.Path.{sym, ap, refl, _∙_}
 use Rattle.terms.specs.Answer.{placeOf}
 use Rattle.layout.specs.Layout.{roomIn}
-use Rattle.marking.proofs.AnswerLaws.{room-for-is, room-for-within, by-refused, by-short, by-room, held, columns-held, marked-few}
+use Rattle.marking.proofs.AnswerLaws.{room-short, room-enough, room-for-within, by-refused, by-short, by-room, held, columns-held, marked-few}
 use Rattle.reports.proofs.ElementLaws.{report-small}
 use borrow.Author.Needs.{needs}
 use Rattle.marking.proofs.report.mark_by_entries.Statement.{statement}
@@ -15,11 +15,8 @@ lay-out-requires c κs = search needs
 enum-known-n : tie.Need-enum-known-n
 enum-known-n c = search needs
 
-least-of-four-requires : tie.Need-least-of-four-requires
-least-of-four-requires c κs = search needs
-
-least-requires : tie.Need-least-requires
-least-requires c κs = search needs
+lacks-room-requires : tie.Need-lacks-room-requires
+lacks-room-requires c κs = search needs
 
 refuse-requires : tie.Need-refuse-requires
 refuse-requires c κs = search needs
@@ -39,29 +36,28 @@ same-length-4 c = search needs
 returns : tie.Need-returns
 unfolding roomIn
 returns c =
-    let is = room-for-is (c .before .before .before .before .before .before .before .before .before .before .before .before .before .before .before .before .before .before .before .before .before .before .before .before .before .before .args .marks .now) (c .before .before .before .before .before .before .before .before .before .before .before .before .before .before .before .lay-out .ensures) _ _ (c .before .before .before .least-of-four .ensures) (c .before .before .least .ensures) in
-    rw (c .refuse .ensures) (by-short _ _ (c .before .before .before .before .before .before .before .before .before .before .before .before .before .before .before .lay-out .ensures) (c .before .before .before .before .before .n .given .1) _ is (c .before .if1 .taken))
+    let short = room-short (c .before .before .before .before .before .before .before .before .before .before .before .before .before .before .before .before .before .before .before .before .before .before .before .before .before .args .marks .now) (c .before .before .before .before .before .before .before .before .before .before .before .before .before .before .lay-out .ensures) _ _ (c .before .before .lacks-room .ensures) (c .before .if1 .taken) in
+    rw (c .refuse .ensures) (by-short _ _ (c .before .before .before .before .before .before .before .before .before .before .before .before .before .before .lay-out .ensures) (c .before .before .before .before .n .given .1) short)
 
 mark-elements-requires : tie.Need-mark-elements-requires
 unfolding roomIn
 mark-elements-requires c κs =
-    let p = c .before .before .before .before .before .before .before .before .before .before .before .before .before .before .before .before .before .before .before .before .before .before .before .before .before .before .before .before .before .args in
-    let is = room-for-is (c .before .before .before .before .before .before .before .before .before .before .before .before .before .before .before .before .before .before .before .before .before .before .before .before .before .before .before .before .before .args .marks .now) (c .before .before .before .before .before .before .before .before .before .before .before .before .before .before .before .before .before .before .lay-out .ensures) _ _ (c .before .before .before .before .before .before .least-of-four .ensures) (c .before .before .before .before .before .least .ensures) in
-    let e = held (c .before .before .before .before .before .before .before .before .before .before .before .before .before .before .before .before .before .before .before .before .before .before .before .before .before .before .before .before .before .args .marks .now) (c .before .before .before .before .before .before .before .before .before .before .before .before .before .before .before .before .before .before .lay-out .ensures) (c .before .before .before .before .before .before .before .before .n .given .1) _ is (c .before .before .before .before .if1 .left) in
-    let room = room-for-within (p .labels .now) (p .levels .now) (p .ups .now) (p .lefts .now) (p .marks .now) _ _ is (c .before .before .before .before .if1 .left) in
-    (c .before .before .before .before .before .before .before .before .before .before .before .before .before .before .before .before .before .before .before .before .before .before .before .before .before .before .before .before .before .pre, ((_, columns-held e), (e .labels-room, e .ups-room, e .lefts-room, room .1)))
+    let p = c .before .before .before .before .before .before .before .before .before .before .before .before .before .before .before .before .before .before .before .before .before .before .before .before .before .before .before .before .args in
+    let h = room-enough (c .before .before .before .before .before .before .before .before .before .before .before .before .before .before .before .before .before .before .before .before .before .before .before .before .before .before .before .before .args .marks .now) (c .before .before .before .before .before .before .before .before .before .before .before .before .before .before .before .before .before .lay-out .ensures) _ _ (c .before .before .before .before .before .lacks-room .ensures) (c .before .before .before .before .if1 .left) in
+    let e = held (p .marks .now) (c .before .before .before .before .before .before .before .before .before .before .before .before .before .before .before .before .before .lay-out .ensures) (c .before .before .before .before .before .before .before .n .given .1) h in
+    let room = room-for-within (p .labels .now) (p .levels .now) (p .ups .now) (p .lefts .now) (p .marks .now) _ h in
+    (c .before .before .before .before .before .before .before .before .before .before .before .before .before .before .before .before .before .before .before .before .before .before .before .before .before .before .before .before .pre, ((_, columns-held e), (e .labels-room, e .ups-room, e .lefts-room, room .1)))
 
 cast-t37 : tie.Need-cast-t37
 unfolding roomIn
 cast-t37 c =
-    let is = room-for-is (c .before .before .before .before .before .before .before .before .before .before .before .before .before .before .before .before .before .before .before .before .before .before .before .before .before .before .before .before .before .before .before .before .args .marks .now) (c .before .before .before .before .before .before .before .before .before .before .before .before .before .before .before .before .before .before .before .before .before .lay-out .ensures) _ _ (c .before .before .before .before .before .before .before .before .before .least-of-four .ensures) (c .before .before .before .before .before .before .before .before .least .ensures) in
-    let e = held (c .before .before .before .before .before .before .before .before .before .before .before .before .before .before .before .before .before .before .before .before .before .before .before .before .before .before .before .before .before .before .before .before .args .marks .now) (c .before .before .before .before .before .before .before .before .before .before .before .before .before .before .before .before .before .before .before .before .before .lay-out .ensures) (c .before .before .before .before .before .before .before .before .before .before .before .n .given .1) _ is (c .before .before .before .before .before .before .before .if1 .left) in omega (arith, e .few)
+    let e = held (c .before .before .before .before .before .before .before .before .before .before .before .before .before .before .before .before .before .before .before .before .before .before .before .before .before .before .before .before .before .before .before .args .marks .now) (c .before .before .before .before .before .before .before .before .before .before .before .before .before .before .before .before .before .before .before .before .lay-out .ensures) (c .before .before .before .before .before .before .before .before .before .before .n .given .1) (room-enough (c .before .before .before .before .before .before .before .before .before .before .before .before .before .before .before .before .before .before .before .before .before .before .before .before .before .before .before .before .before .before .before .args .marks .now) (c .before .before .before .before .before .before .before .before .before .before .before .before .before .before .before .before .before .before .before .before .lay-out .ensures) _ _ (c .before .before .before .before .before .before .before .before .lacks-room .ensures) (c .before .before .before .before .before .before .before .if1 .left)) in
+    omega (arith, e .few)
 
 cast-t38 : tie.Need-cast-t38
 unfolding roomIn
 cast-t38 c =
-    let is = room-for-is (c .before .before .before .before .before .before .before .before .before .before .before .before .before .before .before .before .before .before .before .before .before .before .before .before .before .before .before .before .before .before .before .before .args .marks .now) (c .before .before .before .before .before .before .before .before .before .before .before .before .before .before .before .before .before .before .before .before .before .lay-out .ensures) _ _ (c .before .before .before .before .before .before .before .before .before .least-of-four .ensures) (c .before .before .before .before .before .before .before .before .least .ensures) in
-    let e = held (c .before .before .before .before .before .before .before .before .before .before .before .before .before .before .before .before .before .before .before .before .before .before .before .before .before .before .before .before .before .before .before .before .args .marks .now) (c .before .before .before .before .before .before .before .before .before .before .before .before .before .before .before .before .before .before .before .before .before .lay-out .ensures) (c .before .before .before .before .before .before .before .before .before .before .before .n .given .1) _ is (c .before .before .before .before .before .before .before .if1 .left) in
+    let e = held (c .before .before .before .before .before .before .before .before .before .before .before .before .before .before .before .before .before .before .before .before .before .before .before .before .before .before .before .before .before .before .before .args .marks .now) (c .before .before .before .before .before .before .before .before .before .before .before .before .before .before .before .before .before .before .before .before .lay-out .ensures) (c .before .before .before .before .before .before .before .before .before .before .n .given .1) (room-enough (c .before .before .before .before .before .before .before .before .before .before .before .before .before .before .before .before .before .before .before .before .before .before .before .before .before .before .before .before .before .before .before .args .marks .now) (c .before .before .before .before .before .before .before .before .before .before .before .before .before .before .before .before .before .before .before .before .lay-out .ensures) _ _ (c .before .before .before .before .before .before .before .before .lacks-room .ensures) (c .before .before .before .before .before .before .before .if1 .left)) in
     omega (arith, e .few, marked-few _ _ refl (e .levels-room) (c .before .before .mark-elements .ensures _ (columns-held e)))
 
 enum-known-number : tie.Need-enum-known-number
@@ -88,9 +84,9 @@ same-length-9 c = search needs
 returns-2 : tie.Need-returns-2
 unfolding roomIn
 returns-2 c =
-    let is = room-for-is (c .before .before .before .before .before .before .before .before .before .before .before .before .before .before .before .before .before .before .before .before .before .before .before .before .before .before .before .before .before .before .before .before .args .marks .now) (c .before .before .before .before .before .before .before .before .before .before .before .before .before .before .before .before .before .before .before .before .before .lay-out .ensures) _ _ (c .before .before .before .before .before .before .before .before .before .least-of-four .ensures) (c .before .before .before .before .before .before .before .before .least .ensures) in
-    let e = held (c .before .before .before .before .before .before .before .before .before .before .before .before .before .before .before .before .before .before .before .before .before .before .before .before .before .before .before .before .before .before .before .before .args .marks .now) (c .before .before .before .before .before .before .before .before .before .before .before .before .before .before .before .before .before .before .before .before .before .lay-out .ensures) (c .before .before .before .before .before .before .before .before .before .before .before .n .given .1) _ is (c .before .before .before .before .before .before .before .if1 .left) in
-    by-room _ _ (c .before .before .before .before .before .before .before .before .before .before .before .before .before .before .before .before .before .before .before .before .before .lay-out .ensures) (c .before .before .before .before .before .before .before .before .before .before .before .n .given .1) _ is (c .before .before .before .before .before .before .before .if1 .left) (c .before .before .mark-elements .ensures _ (columns-held e))
+    let h = room-enough (c .before .before .before .before .before .before .before .before .before .before .before .before .before .before .before .before .before .before .before .before .before .before .before .before .before .before .before .before .before .before .before .args .marks .now) (c .before .before .before .before .before .before .before .before .before .before .before .before .before .before .before .before .before .before .before .before .lay-out .ensures) _ _ (c .before .before .before .before .before .before .before .before .lacks-room .ensures) (c .before .before .before .before .before .before .before .if1 .left) in
+    let e = held (c .before .before .before .before .before .before .before .before .before .before .before .before .before .before .before .before .before .before .before .before .before .before .before .before .before .before .before .before .before .before .before .args .marks .now) (c .before .before .before .before .before .before .before .before .before .before .before .before .before .before .before .before .before .before .before .before .lay-out .ensures) (c .before .before .before .before .before .before .before .before .before .before .n .given .1) h in
+    by-room _ _ (c .before .before .before .before .before .before .before .before .before .before .before .before .before .before .before .before .before .before .before .before .lay-out .ensures) (c .before .before .before .before .before .before .before .before .before .before .n .given .1) h (c .before .before .mark-elements .ensures _ (columns-held e))
 
 same-length-10 : tie.Need-same-length-10
 same-length-10 c = search needs
@@ -113,8 +109,7 @@ mark-by-entries-spec =
     (tie.spec
     lay-out-requires
     enum-known-n
-    least-of-four-requires
-    least-requires
+    lacks-room-requires
     refuse-requires
     same-length
     same-length-2
