@@ -2,4 +2,5 @@
 pub mod Reading
 pub mod WordLaws
 pub mod BeginLaws
+pub mod BeginSays
 pub mod Only

@@ -1,5 +1,5 @@
 -- What the answers at a cursor say of reading, over every stack below it, and of what was read: words, numbers, what a test or a step
--- begins with. Laws: WordLaws.antt, BeginLaws.antt (each answer says it, where the cursor is not past the end). Assumes nothing.
+-- begins with. Laws: WordLaws.antt, BeginSays.antt (each answer says it, where the cursor is not past the end). Assumes nothing.
 use Prim.Native.Nat.{ℕ, zero, suc, _+_, _≤_, _<_}
 use mathlib.Core.Path.{_≡_}
 use mathlib.Core.Bool.{Bool, true, false}

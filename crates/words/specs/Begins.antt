@@ -1,6 +1,6 @@
 -- What begins at a cursor: the byte there says which word has to stand, and that word where the test or the step goes on.
--- Shuts out: a word that touches the one before it.
--- Laws: proofs/BeginLaws.antt (what the answers say of reading), proofs/Only.antt. Assumes nothing.
+-- Shuts out: a word that touches the one before it. Nothing here has to be believed, as in Words.
+-- Laws: proofs/BeginSays.antt (what the answers say of reading), proofs/Only.antt. Assumes nothing.
 use mir.Val.{boolByte}
 use Prim.Native.Nat.{ℕ, zero, suc, _+_}
 use mathlib.Core.Bool.{Bool, true, false, cond}

@@ -1,5 +1,5 @@
 -- Bytes, fixed words and numbers at a cursor, told by the bytes from there. Past the end there is none.
--- Shuts out: a place one byte late; a number that begins with 0.
+-- Shuts out: a place one byte late; a number that begins with 0. Nothing here has to be believed: what a text gets is said in `paths`.
 -- Laws: proofs/WordLaws.antt (what the answers say of reading), proofs/Only.antt. Assumes nothing.
 use Prim.Native.Nat.{ℕ, _+_, _-_}
 use mathlib.Core.Bool.{Bool, cond, _&&_}

@@ -6,7 +6,7 @@ use mathlib.Core.Bool.{true, false}
 use lib.ListN.{length}
 use Rattle.parse.specs.Promises.{Went}
 use Rattle.words.proofs.WordLaws.{front}
-use Rattle.words.proofs.BeginLaws.{or-says, begins-says, start-says}
+use Rattle.words.proofs.BeginSays.{or-says, begins-says, start-says}
 use Rattle.parse.proofs.TreeLaws.{test-small, path-small, test-ends, either-ends, shut-small, leaf-law, except-law, begins-law, either-left, either-word, either-law, went-none, path-stops, path-bad, path-ended, went-more, plain-law, passing-law, while-law}
 use Prim.Native.Nat.{ℕ, _<_}
 use borrow.Fn.Kinds.{In}
