@@ -15,7 +15,7 @@ use Rattle.terms.specs.Frame.{startOf, stopsAt}
 use Rattle.terms.specs.declared.answer.Answer.{Answer}
 use Rattle.terms.specs.declared.answer.Answer.the-variants.{Refused}
 use Rattle.numbers.proofs.First.{first-is, first-before, first-there}
-use Rattle.grammar.specs.When.{Faulty, Sized, Reached, Ended}
+use Rattle.grammar.specs.When.{Faulty, Sized}
 use Rattle.grammar.proofs.Frame.{start-strict, start-within}
 use Rattle.numbers.proofs.Tells.{IsTest, holds, fails, true-iff, false-iff, test-stable, or-tests, not-tests, ltb-tests, eqb-tests}
 
@@ -23,14 +23,25 @@ use Rattle.numbers.proofs.Tells.{IsTest, holds, fails, true-iff, false-iff, tes
 abbrev pub answers : (ℕ → ℕ) → List ℕ → (ℕ → Answer) → ℕ → Answer
 answers fault s ends i = cond (eqb (startOf s i) (length s)) (ends i) (Refused (fault i) (startOf s i))
 
+-- Record i begins at p, bytes stand there, and no record before it has a fault.
+pub record CleanTo (fault : ℕ → ℕ) (s : List ℕ) (i p : ℕ) : Type 0 where
+  pub begins : startOf s i ≡ p
+  pub there : p < length s
+  pub clean : (j : ℕ) → j < i → fault j ≡ 0
+
+-- The string ends between records, with i of them and no fault.
+pub record CleanEnd (fault : ℕ → ℕ) (s : List ℕ) (i : ℕ) : Type 0 where
+  pub at-end : startOf s i ≡ length s
+  pub clean : (j : ℕ) → j < i → fault j ≡ 0
+
 -- Record i, which begins at p, is the first at fault.
 pub record Fails (fault : ℕ → ℕ) (s : List ℕ) (i p : ℕ) : Type 0 where
-  pub reached : Reached fault s i p
+  pub reached : CleanTo fault s i p
   pub at-fault : fault i ≡ 0 → ⊥
 
 -- The answer is that of the string's end after i records, or of record i as the first at fault.
 pub data Decided (fault : ℕ → ℕ) (s : List ℕ) (ends : ℕ → Answer) (a : Answer) : Type 0 where
-  by-end : (i : ℕ) → Ended fault s i → ends i ≡ a → Decided fault s ends a
+  by-end : (i : ℕ) → CleanEnd fault s i → ends i ≡ a → Decided fault s ends a
   by-fault : (i p : ℕ) → Fails fault s i p → Refused (fault i) p ≡ a → Decided fault s ends a
 
 module _ (fault : ℕ → ℕ) (s : List ℕ) where
@@ -42,7 +53,7 @@ module _ (fault : ℕ → ℕ) (s : List ℕ) where
       false-iff (stops-told j) .1 (λ r. elim r [ inl e ↦ omega (arith, start-strict s j k l) | inr n ↦ n (clean j l) ])
 
   -- Where the string ends without a fault, there the search stops.
-  pub ended-first : (bound i : ℕ) → i ≤ bound → Ended fault s i → first (stopsAt fault s) bound ≡ i
+  pub ended-first : (bound i : ℕ) → i ≤ bound → CleanEnd fault s i → first (stopsAt fault s) bound ≡ i
   ended-first bound i h r =
       first-is (stopsAt fault s) bound i h (goes-on i (omega (arith, r .at-end)) (r .clean)) (λ l. true-iff (stops-told i) .1 (inl (r .at-end)))
 
@@ -52,7 +63,7 @@ module _ (fault : ℕ → ℕ) (s : List ℕ) where
       first-is (stopsAt fault s) bound i h (goes-on i (omega (arith, r .reached .begins, r .reached .there)) (r .reached .clean))
       (λ l. true-iff (stops-told i) .1 (inr (r .at-fault)))
 
-  ended-answer : (ends : ℕ → Answer) (i : ℕ) → Ended fault s i → answers fault s ends i ≡ ends i
+  ended-answer : (ends : ℕ → Answer) (i : ℕ) → CleanEnd fault s i → answers fault s ends i ≡ ends i
   ended-answer ends i r = rw (eq-eqb (startOf s i) (length s) (r .at-end))
 
   fails-answer : (ends : ℕ → Answer) (i p : ℕ) → Fails fault s i p → answers fault s ends i ≡ Refused (fault i) p
@@ -75,12 +86,12 @@ module _ (fault : ℕ → ℕ) (s : List ℕ) where
         elim (true-iff (stops-told k) .0 (there (capped (suc k) more (clean-within (suc k) more)))) [ inl e ↦ n e | inr f ↦ f z ]
 
     decides-at : (k : ℕ) → ((j : ℕ) → j < k → stopsAt fault s j ≡ false) → (k < bound → stopsAt fault s k ≡ true)
-        → Ended fault s k ⊎ Fails fault s k (startOf s k)
+        → CleanEnd fault s k ⊎ Fails fault s k (startOf s k)
     decides-at k before there = go (eqb-tests (startOf s k) (length s)) where
       clean : (j : ℕ) → j < k → fault j ≡ 0
       clean j l = test-stable (eqb-tests (fault j) 0) (λ n. false-iff (stops-told j) .0 (before j l) (inr n))
 
-      go : {b : Bool} → IsTest (startOf s k ≡ length s) b → Ended fault s k ⊎ Fails fault s k (startOf s k)
+      go : {b : Bool} → IsTest (startOf s k ≡ length s) b → CleanEnd fault s k ⊎ Fails fault s k (startOf s k)
       go (holds e) = inl (record { at-end = e; clean = clean })
       go (fails n) =
           inr (record {
@@ -89,11 +100,11 @@ module _ (fault : ℕ → ℕ) (s : List ℕ) where
           })
 
     -- What the search finds is where the string ends, or the first record at fault.
-    first-decides : Ended fault s (first (stopsAt fault s) bound)
+    first-decides : CleanEnd fault s (first (stopsAt fault s) bound)
         ⊎ Fails fault s (first (stopsAt fault s) bound) (startOf s (first (stopsAt fault s) bound))
     first-decides = decides-at _ (first-before (stopsAt fault s) bound) (first-there (stopsAt fault s) bound)
 
-    ended-capped : (i : ℕ) → Ended fault s i → i ≤ bound
+    ended-capped : (i : ℕ) → CleanEnd fault s i → i ≤ bound
     ended-capped i r = capped i (r .clean) (clean-within i (r .clean))
 
     fails-capped : (i p : ℕ) → Fails fault s i p → i ≤ bound
@@ -103,7 +114,7 @@ module _ (fault : ℕ → ℕ) (s : List ℕ) where
     pub answer-iff : (ends : ℕ → Answer) (a : Answer)
         → (answers fault s ends (first (stopsAt fault s) bound) ≡ a) ↔ Decided fault s ends a
     answer-iff ends a = (there first-decides, back) where
-      there : {k : ℕ} → Ended fault s k ⊎ Fails fault s k (startOf s k) → answers fault s ends k ≡ a → Decided fault s ends a
+      there : {k : ℕ} → CleanEnd fault s k ⊎ Fails fault s k (startOf s k) → answers fault s ends k ≡ a → Decided fault s ends a
       there {k} (inl r) e = by-end k r (sym (ended-answer ends k r) ∙ e)
       there {k} (inr r) e = by-fault k (startOf s k) r (sym (fails-answer ends k (startOf s k) r) ∙ e)
 

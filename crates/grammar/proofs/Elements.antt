@@ -14,7 +14,7 @@ use Rattle.terms.specs.declared.answer.Answer.{Answer}
 use Rattle.terms.specs.declared.answer.Answer.the-variants.{Accepted, Refused}
 use Rattle.grammar.specs.Legal.{Legal, LegalLevels}
 use Rattle.grammar.specs.Reports.{Tree, tagsT, bytesOf, Labelled, Within}
-use Rattle.grammar.specs.When.{Ended}
+use Rattle.grammar.proofs.Decides.{CleanEnd}
 use Rattle.tag.proofs.TagLaws.{levels-count}
 use Rattle.grammar.proofs.Fits.{fit-few, fit-labelled, legal-levels}
 use Rattle.grammar.proofs.Trees.{tree-some, tags-size, legal-tree}
@@ -30,7 +30,7 @@ tags-length s zero = refl
 tags-length s (suc i) = length-append (tagsBefore s i) _ ∙ omega (arith, tags-length s i)
 
 -- A report that ends with no byte has no record.
-ended-some : (s : List ℕ) (i : ℕ) → Ended (reportFault s) s i → 1 ≤ length s → tagsBefore s i ≡ [] → ⊥
+ended-some : (s : List ℕ) (i : ℕ) → CleanEnd (reportFault s) s i → 1 ≤ length s → tagsBefore s i ≡ [] → ⊥
 unfolding startOf
 ended-some s zero r l z = omega (arith, r .at-end)
 ended-some s (suc i) r l z = omega (arith, tags-length s (suc i), ap length z)

@@ -18,7 +18,8 @@ use Rattle.terms.specs.declared.answer.Answer.the-variants.{Accepted, Refused}
 use Rattle.terms.specs.declared.kind.Numbers.the-variants.{Entries}
 use Rattle.entry.specs.declared.entry.Entry.{Entry}
 use Rattle.grammar.specs.Rules.{noEntry, WellFormed, RuleEntries}
-use Rattle.grammar.specs.When.{Sized, bad-label, bad-a, bad-b, Ended}
+use Rattle.grammar.specs.When.{Sized, bad-label, bad-a, bad-b}
+use Rattle.grammar.proofs.Decides.{CleanEnd}
 use Rattle.grammar.proofs.Frame.{unfaulty-sound}
 use Rattle.terms.proofs.Rows.{known-range, kind-label, kind-entries}
 use Rattle.grammar.proofs.WhenRule.{fault-0-iff, rule-accepted-iff}
@@ -98,7 +99,7 @@ module _ (s : List ℕ) where
   pub entries-some : (n : ℕ) → ruleAnswer s ≡ Accepted n → 1 ≤ n
   unfolding startOf
   entries-some n e = go n (rule-accepted-iff s n .0 e .0) (rule-accepted-iff s n .0 e .1 .0) where
-    go : (m : ℕ) → Sized ruleMost s → Ended (ruleFaults s) s m → 1 ≤ m
+    go : (m : ℕ) → Sized ruleMost s → CleanEnd (ruleFaults s) s m → 1 ≤ m
     go zero sized r = omega (arith, sized .some, r .at-end)
     go (suc m) sized r = omega arith
 

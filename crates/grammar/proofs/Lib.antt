@@ -11,6 +11,7 @@ pub mod TagRows
 pub mod Fits
 pub mod Trees
 pub mod WhenReport
+pub mod Refusals
 pub mod ReportBytes
 pub mod Begins
 pub mod Elements

@@ -21,7 +21,8 @@ use Rattle.terms.specs.declared.answer.Answer.the-variants.{Accepted}
 use Rattle.numbers.specs.Bytes.{twoBytes, Bytes}
 use Rattle.grammar.specs.Legal.{Fit, Legal}
 use Rattle.grammar.specs.Reports.{Tree, tagBytes, bytesOf, tagsT, sizeT, Within}
-use Rattle.grammar.specs.When.{Faulty, Ended}
+use Rattle.grammar.specs.When.{Faulty}
+use Rattle.grammar.proofs.Decides.{CleanEnd}
 use Rattle.numbers.proofs.TwoBytes.{number-back, number-shift, bytes-split}
 use Rattle.numbers.proofs.Tells.{IsTest, holds, fails, eqb-tests}
 use Rattle.grammar.proofs.Frame.{Sound, sound-unfaulty, unfaulty-sound, start-strict}
@@ -200,7 +201,7 @@ module _ (s : List ℕ) where
 -- ---- acceptance
 
 -- A list that is the bytes of a tree within the limits ends after the tree's tags, without a fault.
-tree-ended : (s : List ℕ) (t : Tree) → s ≡ bytesOf (tagsT t) → Within t → Ended (reportFault s) s (length (tagsT t))
+tree-ended : (s : List ℕ) (t : Tree) → s ≡ bytesOf (tagsT t) → Within t → CleanEnd (reportFault s) s (length (tagsT t))
 tree-ended s t e w =
     let r = tags-back (tagsT t) [] s (e ∙ sym (append-nil (bytesOf (tagsT t)))) in
     record {
@@ -222,7 +223,7 @@ tree-accepted s t e w =
     )
 
 -- A byte string that ends after i records without a fault is the bytes of their tags.
-ended-bytes : (s : List ℕ) → Bytes s → (i : ℕ) → Ended (reportFault s) s i → s ≡ bytesOf (tagsBefore s i)
+ended-bytes : (s : List ℕ) → Bytes s → (i : ℕ) → CleanEnd (reportFault s) s i → s ≡ bytesOf (tagsBefore s i)
 ended-bytes s bytes i r =
     let z : drop (startOf s i) s ≡ [] = rw (r .at-end) (drop-length s) in
     bytes-read s bytes i (λ j l. clean-unfaulty s j (r .clean j l)) ∙ rw z (append-nil (bytesOf (tagsBefore s i)))

@@ -79,7 +79,7 @@ module _ (d e : ℕ) where
   tag-fault-is closes = refl
 
   -- A tag gets no number exactly where none of the rows 6, 7 and 8 applies.
-  tag-fine-iff : (t : Tag) → (tagFault d e (eqb d 0 && ltb 0 e) t ≡ 0)
+  pub tag-fine-iff : (t : Tag) → (tagFault d e (eqb d 0 && ltb 0 e) t ≡ 0)
       ↔ ((Mislabelled t → ⊥) × ((Unbalanced d e t → ⊥) × (TooMuch d e t → ⊥)))
   tag-fine-iff t = rw (tag-fault-is t) (chain-none-iff 6 7 8 numbers-distinct (mislabels-told t) (unbalances-told d e t) (overfills-told d e t))
 

@@ -15,16 +15,29 @@ use Rattle.tag.specs.Record.{reportLength, tagAt, recordFault}
 use Rattle.reports.specs.Report.{tagsBefore, reportFault, reportStops, reportAnswerAt, reportAnswer, lastRecord}
 use Rattle.terms.specs.declared.answer.Answer.{Answer}
 use Rattle.terms.specs.declared.answer.Answer.the-variants.{Accepted, Refused}
-use Rattle.grammar.specs.When.{Faulty, Sized, Reached, Ended, Row6, Row7, Row8, AtFirst, EndsOpen, EndsWell}
+use Rattle.grammar.specs.When.{Faulty, Sized, Row6, Row7, Row8}
 use Rattle.numbers.proofs.Tells.{IsTest, holds, fails, or-tests, eqb-tests, pick-later}
 use Rattle.grammar.proofs.Chain.{chain, chain-numbers, chain-first-iff, chain-second-iff, chain-third-iff}
 use Rattle.grammar.proofs.Frame.{broken-told, start-far}
-use Rattle.grammar.proofs.Decides.{answers, Decided, by-end, by-fault, answer-iff, ended-first, sizeFirst}
+use Rattle.grammar.proofs.Decides.{answers, CleanTo, CleanEnd, Decided, by-end, by-fault, answer-iff, ended-first, sizeFirst}
 use Rattle.grammar.proofs.Decides.{unsized-iff, sized-iff}
 use Rattle.grammar.proofs.TagRows.{mislabels, unbalances, overfills, mislabels-told, unbalances-told, overfills-told}
 use Rattle.grammar.proofs.TagRows.{tag-fault-is, numbers-distinct}
 use Rattle.terms.specs.Limits.{reportMost}
 use Rattle.terms.proofs.AnswerLaws.{Sound}
+
+-- A row applies at the first record with a fault, which begins at p: `row` takes where the record begins, how many elements are open
+-- before it, and how many have been opened.
+abbrev pub AtFirst : List ℕ → ℕ → (ℕ → ℕ → ℕ → Type 0) → Type 0
+AtFirst s p row = (i : ℕ) × CleanTo (reportFault s) s i p × row p (depth (tagsBefore s i)) (openedCount (tagsBefore s i))
+
+-- Row 7 at the end: no record has a fault, and the report ends with an element open; the place is its length.
+abbrev pub EndsOpen : List ℕ → ℕ → Type 0
+EndsOpen s p = (i : ℕ) × CleanEnd (reportFault s) s i × (0 < depth (tagsBefore s i)) × (p ≡ length s)
+
+-- Row 0: no record has a fault, and the report ends with no element open and n opened.
+abbrev pub EndsWell : List ℕ → ℕ → Type 0
+EndsWell s n = (i : ℕ) × CleanEnd (reportFault s) s i × (depth (tagsBefore s i) ≡ 0) × (openedCount (tagsBefore s i) ≡ n)
 
 -- ---- one record
 
@@ -127,7 +140,7 @@ module _ (s : List ℕ) where
 
   -- ---- the numbers
 
-  fault-at : (i p : ℕ) → Reached (reportFault s) s i p → reportFault s i ≡ recordFault s p (depth (tagsBefore s i)) (openedCount (tagsBefore s i))
+  fault-at : (i p : ℕ) → CleanTo (reportFault s) s i p → reportFault s i ≡ recordFault s p (depth (tagsBefore s i)) (openedCount (tagsBefore s i))
   unfolding reportFault
   fault-at i p r = rw (r .begins)
 
@@ -136,7 +149,7 @@ module _ (s : List ℕ) where
     decided-row (by-end i r e) = let h = end-refused-iff _ _ k p .0 e in inr (h .0, (i, r, h .1 .0, h .1 .1))
     decided-row (by-fault i q f e) =
         let b : q ≡ p = cc in
-        let r : Reached (reportFault s) s i p = subst (Reached (reportFault s) s i) b (f .reached) in
+        let r : CleanTo (reportFault s) s i p = subst (CleanTo (reportFault s) s i) b (f .reached) in
         inl (i, r, row-iff _ _ _ .0 (sym (fault-at i p r) ∙ cc))
 
     row-decided : AtFirst s p row ⊎ ((k ≡ 7) × EndsOpen s p) → Decided (reportFault s) s ends (Refused k p)
@@ -230,6 +243,6 @@ module _ (s : List ℕ) where
   report-place k p e = refused-numbers k p e .1
 
   -- Where a report ends without a fault, reading stops.
-  pub report-last : (i : ℕ) → Ended (reportFault s) s i → lastRecord s ≡ i
+  pub report-last : (i : ℕ) → CleanEnd (reportFault s) s i → lastRecord s ≡ i
   unfolding reportStops
   report-last i r = ended-first (reportFault s) s (length s) i (capped i (r .clean) (omega (arith, r .at-end))) r

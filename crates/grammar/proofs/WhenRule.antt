@@ -19,10 +19,10 @@ use Rattle.terms.specs.declared.kind.Numbers.{Numbers}
 use Rattle.terms.specs.declared.kind.Numbers.the-variants.{Nothing, Label, Entries}
 use Rattle.terms.specs.declared.kind.Row.{Row}
 use Rattle.entry.specs.declared.entry.Entry.{Entry}
-use Rattle.grammar.specs.When.{Sized, Faulty, Outside, Reached, Ended}
+use Rattle.grammar.specs.When.{Sized, Faulty, Outside}
 use Rattle.grammar.specs.When.{Misdirected, bad-label, bad-a, bad-b, MisdirectedAt}
 use Rattle.grammar.proofs.Chain.{Distinct, chain-numbers, chain-first-iff, chain-second-iff, chain-third-iff, chain-none-iff}
-use Rattle.grammar.proofs.Decides.{Decided, by-end, by-fault, answer-iff, unsized-iff, sized-iff, size-cases}
+use Rattle.grammar.proofs.Decides.{CleanTo, CleanEnd, Decided, by-end, by-fault, answer-iff, unsized-iff, sized-iff, size-cases}
 use Rattle.grammar.proofs.Frame.{broken-told}
 use Rattle.numbers.proofs.Tells.{IsTest, fails, test-iff, or-tests, and-tests, ltb-tests, leb-tests}
 use Rattle.terms.specs.Limits.{entriesMost, labelMost, ruleMost}
@@ -124,20 +124,20 @@ module _ (s : List ℕ) where
   later-iff a = answer-iff (ruleFaults s) s ruleLength entriesMost rule-sound (λ i clean l. rule-capped i clean) Accepted a
 
   refused-there : (k p : ℕ) → Decided (ruleFaults s) s Accepted (Refused k p)
-      → (i : ℕ) × Reached (ruleFaults s) s i p × (ruleFault s i p ≡ k)
+      → (i : ℕ) × CleanTo (ruleFaults s) s i p × (ruleFault s i p ≡ k)
   refused-there k p (by-end i r e) = let z : _≡_ {A = ℕ} 0 1 = cc in absurd (omega arith)
   refused-there k p (by-fault i q r e) =
       let same : q ≡ p = cc in
-      let at = subst (Reached (ruleFaults s) s i) same (r .reached) in (i, at, cc (at .begins))
+      let at = subst (CleanTo (ruleFaults s) s i) same (r .reached) in (i, at, cc (at .begins))
 
-  refused-back : (k p i : ℕ) → (k ≡ 0 → ⊥) → Reached (ruleFaults s) s i p → ruleFault s i p ≡ k
+  refused-back : (k p i : ℕ) → (k ≡ 0 → ⊥) → CleanTo (ruleFaults s) s i p → ruleFault s i p ≡ k
       → Decided (ruleFaults s) s Accepted (Refused k p)
   refused-back k p i n r e =
       let f : ruleFaults s i ≡ k = cc (r .begins) in by-fault i p (record { reached = r; at-fault = λ z. n (cc) }) (cc)
 
   -- A number from 2 on is given exactly where the size is right and a record is reached that gets it.
   row-iff : (k p : ℕ) (Row : ℕ → Type 0) → 2 ≤ k → ((i : ℕ) → (ruleFault s i p ≡ k) ↔ Row i)
-      → (ruleAnswer s ≡ Refused k p) ↔ (Sized ruleMost s × ((i : ℕ) × Reached (ruleFaults s) s i p × Row i))
+      → (ruleAnswer s ≡ Refused k p) ↔ (Sized ruleMost s × ((i : ℕ) × CleanTo (ruleFaults s) s i p × Row i))
   unfolding ruleAnswer
   row-iff k p Row l rows =
       Iff·trans (sized-iff 1 ruleMost s _ (Refused k p) (λ e. let z : 1 ≡ k = cc in omega arith))
@@ -159,31 +159,31 @@ module _ (s : List ℕ) where
 
   -- Row 2 is given exactly at the first record at fault, where it is one of the first 64 and faulty.
   pub rule-2-iff : (p : ℕ)
-      → (ruleAnswer s ≡ Refused 2 p) ↔ (Sized ruleMost s × ((i : ℕ) × Reached (ruleFaults s) s i p × ((i < entriesMost) × Faulty ruleLength s p)))
+      → (ruleAnswer s ≡ Refused 2 p) ↔ (Sized ruleMost s × ((i : ℕ) × CleanTo (ruleFaults s) s i p × ((i < entriesMost) × Faulty ruleLength s p)))
   rule-2-iff p = row-iff 2 p _ (omega arith) (λ i. fault-2-iff s i p)
 
   -- Row 3 is given exactly at the first record at fault, where it is one of the first 64, not faulty, and misdirected.
   pub rule-3-iff : (p : ℕ) → (ruleAnswer s ≡ Refused 3 p)
-      ↔ (Sized ruleMost s × ((i : ℕ) × Reached (ruleFaults s) s i p × ((i < entriesMost) × ((Faulty ruleLength s p → ⊥) × MisdirectedAt s i p))))
+      ↔ (Sized ruleMost s × ((i : ℕ) × CleanTo (ruleFaults s) s i p × ((i < entriesMost) × ((Faulty ruleLength s p → ⊥) × MisdirectedAt s i p))))
   rule-3-iff p = row-iff 3 p _ (omega arith) (λ i. fault-3-iff s i p)
 
   -- Row 4 is given exactly where a 65th record begins after 64 without fault, and there.
-  pub rule-4-iff : (p : ℕ) → (ruleAnswer s ≡ Refused 4 p) ↔ (Sized ruleMost s × Reached (ruleFaults s) s entriesMost p)
+  pub rule-4-iff : (p : ℕ) → (ruleAnswer s ≡ Refused 4 p) ↔ (Sized ruleMost s × CleanTo (ruleFaults s) s entriesMost p)
   rule-4-iff p =
       Iff·trans (row-iff 4 p _ (omega arith) (λ i. fault-4-iff s i p)) (Iff·and Iff·rfl (
         λ r. let e : r .0 ≡ entriesMost = omega (arith, rule-capped (r .0) (r .1 .clean), r .2) in
-            subst (λ (i : ℕ). Reached (ruleFaults s) s i p) e (r .1),
+            subst (λ (i : ℕ). CleanTo (ruleFaults s) s i p) e (r .1),
         λ r. (entriesMost, r, omega arith),
       ))
 
   -- A rule is accepted exactly where its size is right and it ends after its entries, 64 or fewer, none of them at fault.
-  pub rule-accepted-iff : (n : ℕ) → (ruleAnswer s ≡ Accepted n) ↔ (Sized ruleMost s × (Ended (ruleFaults s) s n × (n ≤ entriesMost)))
+  pub rule-accepted-iff : (n : ℕ) → (ruleAnswer s ≡ Accepted n) ↔ (Sized ruleMost s × (CleanEnd (ruleFaults s) s n × (n ≤ entriesMost)))
   unfolding ruleAnswer
   rule-accepted-iff n =
       Iff·trans (sized-iff 1 ruleMost s _ (Accepted n) (λ e. let z : _≡_ {A = ℕ} 0 1 = cc in omega arith))
       (Iff·and Iff·rfl (Iff·trans (later-iff (Accepted n)) (there, λ r. by-end n (r .0) refl))) where
-        there : Decided (ruleFaults s) s Accepted (Accepted n) → Ended (ruleFaults s) s n × (n ≤ entriesMost)
-        there (by-end i r e) = let same : i ≡ n = cc in let q = subst (Ended (ruleFaults s) s) same r in (q, rule-capped n (q .clean))
+        there : Decided (ruleFaults s) s Accepted (Accepted n) → CleanEnd (ruleFaults s) s n × (n ≤ entriesMost)
+        there (by-end i r e) = let same : i ≡ n = cc in let q = subst (CleanEnd (ruleFaults s) s) same r in (q, rule-capped n (q .clean))
         there (by-fault i p r e) = let z : _≡_ {A = ℕ} 0 1 = cc in absurd (omega arith)
 
   refused-cases : (k p : ℕ) → ruleAnswer s ≡ Refused k p → (Refused 1 0 ≡ Refused k p) ⊎ Decided (ruleFaults s) s Accepted (Refused k p)
