@@ -13,11 +13,11 @@ use Rattle.tag.specs.Tags.{Tag, opens, closes, depthFrom, depth, labels, opened
 use Rattle.tag.proofs.TagLaws.{depth-append}
 use Rattle.numbers.specs.Bytes.{Bytes, twoBytes}
 use Rattle.grammar.specs.Legal.{Fit, Legal}
-use Rattle.grammar.specs.Reports.{sizeT, tagBytes, bytesOf}
+use Rattle.grammar.specs.Reports.{Tree, sizeT, tagsT, tagBytes, bytesOf, Within}
 use Rattle.grammar.proofs.Fits.{fit-append}
 use Rattle.grammar.proofs.ReportBytes.{tags-begin, tags-are, accepted-tree, tree-accepted}
 use Rattle.grammar.proofs.TagRows.{opens-well-iff, closes-well-iff}
-use Rattle.grammar.proofs.Trees.{bytes-append, legal-tree}
+use Rattle.grammar.proofs.Trees.{bytes-append, tree-legal, legal-tree}
 
 -- ---- the tags of such a report
 
@@ -59,6 +59,10 @@ fit-bytes [] d e f = λ i. omega arith
 fit-bytes (opens l ∷ ts) d e f =
     append-bytes (tagBytes (opens l)) (bytesOf ts) (opens-bytes l (opens-well-iff d e l .0 (f .0) .small)) (fit-bytes ts _ _ (f .1))
 fit-bytes (closes ∷ ts) d e f = append-bytes (tagBytes closes) (bytesOf ts) closes-bytes (fit-bytes ts _ _ (f .1))
+
+-- So are those of a tree within the limits.
+pub tree-bytes : (t : Tree) → Within t → Bytes (bytesOf (tagsT t))
+tree-bytes t w = fit-bytes (tagsT t) 0 0 (tree-legal t w .fit)
 
 -- ---- tags that fit go on
 

@@ -2,6 +2,7 @@
 -- opening, levels from the root's 0; "Sizes": 1 to 4,096 elements, levels 0 to 63, labels 1 to 999.
 -- Laws: proofs/Trees.antt, proofs/ReportBytes.antt. Assumes nothing.
 use Prim.Native.Nat.{ℕ, suc, _+_, _≤_, _<_, max}
+use mathlib.Core.Path.{_≡_}
 use mathlib.Core.List.{List, [], _∷_, _++_}
 use lib.ListN.{length, getD}
 use Rattle.tag.specs.Tags.{Tag, opens, closes, labels}
@@ -62,3 +63,8 @@ pub record Within (t : Tree) : Type 0 where
   pub few : sizeT t ≤ elementsMost
   pub shallow : heightT t ≤ levelsMost
   pub labelled : Labelled (labels (tagsT t))
+
+-- The byte string is the report of this tree.
+pub record IsReport (s : List ℕ) (t : Tree) : Type 0 where
+  pub within : Within t
+  pub bytes-are : s ≡ bytesOf (tagsT t)

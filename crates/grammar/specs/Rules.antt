@@ -2,11 +2,11 @@
 -- Laws: proofs/Rules.antt. Assumes nothing.
 use Prim.Native.Nat.{ℕ, _≤_, _<_}
 use mathlib.Core.Path.{_≡_}
-use mathlib.Core.Bool.{cond}
+use mathlib.Core.Bool.{true, cond}
 use mathlib.Core.List.{List, [], _∷_, _++_}
 use lib.Dec.{leb}
 use lib.ListN.{length, getD}
-use Rattle.terms.specs.Kinds.{rowOf}
+use Rattle.terms.specs.Kinds.{rowOf, looksBack}
 use Rattle.entry.specs.declared.entry.Entry.{Entry}
 use Rattle.numbers.specs.Bytes.{twoBytes}
 use Rattle.grammar.specs.When.{Misdirected}
@@ -42,3 +42,12 @@ pub record RuleEntries (es : List Entry) : Type 0 where
   pub nonempty : 1 ≤ length es
   pub few : length es ≤ entriesMost
   pub formed : (i : ℕ) → i < length es → WellFormed i (getD es i noEntry)
+
+-- The byte string is the rule of these entries.
+pub record IsRule (s : List ℕ) (es : List Entry) : Type 0 where
+  pub entries : RuleEntries es
+  pub bytes-are : s ≡ ruleBytes es
+
+-- The rule looks back only: every entry's kind does.
+abbrev pub LooksBack : List Entry → Type 0
+LooksBack es = (i : ℕ) → i < length es → looksBack (getD es i noEntry .kind) ≡ true

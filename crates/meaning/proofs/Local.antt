@@ -14,7 +14,7 @@ use Rattle.entry.specs.declared.entry.Entry.{Entry}
 use Rattle.tag.specs.Tags.{Tag, opens, depth, levelsFrom, levels, labels, openedCount}
 use Rattle.tag.proofs.TagLaws.{levels-append, labels-append, levels-count}
 use Rattle.numbers.proofs.First.{clash}
-use Rattle.grammar.specs.Rules.{noEntry}
+use Rattle.grammar.specs.Rules.{noEntry, LooksBack}
 use Rattle.meaning.specs.Links.{link}
 use Rattle.terms.specs.declared.kind.Axis.{Axis}
 use Rattle.meaning.specs.Tree.{backward, direction}
@@ -22,7 +22,6 @@ use Rattle.terms.specs.declared.kind.Shape.{Shape}
 use Rattle.terms.specs.declared.kind.Shape.the-variants.{Nothing as nothing, Here as local, SomeAlong as someAlong, UntilAlong as untilAlong, EveryChild as everyChild}
 use Rattle.terms.specs.Kinds.{rowOf, shapeOf, leadsBack, shapeLooksBack}
 use Rattle.meaning.specs.Marks.{at, someOf, untilOf, means, below, mark, wordOf}
-use Rattle.meaning.specs.OnePass.{LooksBack}
 use Rattle.meaning.proofs.Links.{Agree, link-prefix}
 use Rattle.meaning.proofs.Tests.{found-down, until-is}
 use Rattle.meaning.proofs.Reflect.{axis-along}

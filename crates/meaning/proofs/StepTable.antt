@@ -12,7 +12,7 @@ use mathlib.Core.Option.{Option, none, some}
 use lib.ListN.{length, getD, List·getD-append}
 use Rattle.entry.specs.declared.entry.Entry.{Entry}
 use Rattle.numbers.proofs.First.{clash}
-use Rattle.grammar.specs.Rules.{noEntry, RuleEntries}
+use Rattle.grammar.specs.Rules.{noEntry, RuleEntries, LooksBack}
 use Rattle.grammar.proofs.Entries.{formed-a, formed-b}
 use Rattle.terms.specs.declared.kind.Axis.{Axis}
 use Rattle.terms.specs.declared.kind.Axis.the-variants.{Child as child, Parent as toParent, Next as next, Previous as toPrevious}
@@ -22,7 +22,7 @@ use Rattle.terms.specs.declared.kind.Shape.{Shape}
 use Rattle.terms.specs.declared.kind.Shape.the-variants.{Nothing as nothing, Here as local, SomeAlong as someAlong, UntilAlong as untilAlong, EveryChild as everyChild}
 use Rattle.terms.specs.Kinds.{rowOf, shapeOf, leadsBack, shapeLooksBack}
 use Rattle.meaning.specs.Marks.{at, someOf, meansHere, means, mark, wordOf}
-use Rattle.meaning.specs.OnePass.{LooksBack, wordTo, stepBit, stepWord}
+use Rattle.meaning.specs.OnePass.{wordTo, stepBit, stepWord}
 use Rattle.meaning.proofs.Tests.{until-is}
 use Rattle.meaning.proofs.Reflect.{axis-along}
 use Rattle.meaning.proofs.OneStep.{mark-rule}

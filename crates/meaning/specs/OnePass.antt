@@ -3,14 +3,13 @@
 -- Shuts out: the previous sibling's word read where a cousin left it; kinds 7 and 9 more than one step away; root closed forgotten.
 -- Laws: proofs/Taken.antt (what is taken and counted), proofs/StepTable.antt, proofs/Walk.antt, proofs/Agrees.antt (the one-pass
 -- theorem). Assumes nothing.
-use Prim.Native.Nat.{ℕ, zero, suc, pred, _+_, _*_, _^_, _<_}
+use Prim.Native.Nat.{ℕ, zero, suc, pred, _+_, _*_, _^_}
 use mathlib.Core.Path.{_≡_}
 use mathlib.Core.Bool.{Bool, true, false, cond, _&&_, _||_}
 use mathlib.Core.List.{List, [], _∷_}
 use lib.Dec.{eqb, ltb}
 use lib.ListN.{length, getD, set, replicate}
 use Rattle.entry.specs.declared.entry.Entry.{Entry}
-use Rattle.terms.specs.Kinds.{looksBack}
 use Rattle.tag.specs.Tags.{Tag, opens, closes, tagFault}
 use Rattle.grammar.specs.Rules.{noEntry}
 use Rattle.terms.specs.declared.kind.Axis.{Axis}
@@ -108,10 +107,6 @@ closed st =
       openWords = st .openWords;
       lastWords = set (st .lastWords) (pred (st .depth)) (getD (st .openWords) (pred (st .depth)) 0);
     }
-
--- The rule looks back only: every entry's kind does.
-abbrev pub LooksBack : List Entry → Type 0
-LooksBack entries = (i : ℕ) → i < length entries → looksBack (getD entries i noEntry .kind) ≡ true
 
 -- The number that a tag gets in a state, in the order 6, 7, 8; 0 where the table takes it.
 abbrev pub fault : State → Tag → ℕ

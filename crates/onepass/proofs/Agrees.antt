@@ -24,7 +24,8 @@ use Rattle.grammar.proofs.Begins.{report-bytes, report-begins, fit-goes-on}
 use Rattle.grammar.proofs.Trees.{bytes-append}
 use Rattle.grammar.proofs.Entries.{entries-few, rule-entries}
 use Rattle.meaning.specs.Marks.{wordOf, verdict}
-use Rattle.meaning.specs.OnePass.{fresh, LooksBack, fault, openedVerdict, afterAll, Taken}
+use Rattle.meaning.specs.OnePass.{fresh, fault, openedVerdict, afterAll, Taken}
+use Rattle.grammar.specs.Rules.{LooksBack}
 use Rattle.meaning.proofs.Agrees.{verdict-agrees as table-agrees}
 use Rattle.meaning.proofs.Taken.{taken-append, taken-fit, after-append}
 use Rattle.walk.proofs.WalkLaws.{back-ahead}
@@ -46,7 +47,7 @@ use Rattle.terms.proofs.AnswerLaws.{numbered-number}
 -- ---- one call
 
 -- What a call promises, open or close: the answer and the bytes after it.
-promised-both : (rule s : List ℕ) (t : Tag) {r : StepReply} {next : List ℕ} → Promised rule s t r next
+pub promised-both : (rule s : List ℕ) (t : Tag) {r : StepReply} {next : List ℕ} → Promised rule s t r next
     → (r ≡ answerOf rule s t) × (next ≡ stateAfter rule s t)
 promised-both rule s (opens l) p = (p .answer, p .state-is)
 promised-both rule s closes p = (p .answer, p .state-is)

@@ -1,8 +1,5 @@
 // The readers as C calls them; include/polonezar.h declares them.
-ghost use mathlib.Core.Path.{_≡_};
-ghost use Rattle.rules.specs.Rule.{ruleAnswer};
-ghost use Rattle.reports.specs.Report.{reportAnswer};
-ghost use Rattle.records.specs.Reply.{ruleReply, reportReply};
+ghost use Rattle.records.specs.Reply.{RuleRead, ReportRead};
 use reports::elements::read_report;
 use rules::table::read_rule;
 use terms::answer::Answer;
@@ -26,7 +23,7 @@ pub struct ReportReply {
 // Reads a rule.
 #[no_mangle]
 pub extern "C" fn pz_read_rule(rule: &[u8]) -> RuleReply
-    ensures { λ r. ⌜ r ≡ ruleReply (ruleAnswer (now (rule .entry))) ⌝ }
+    ensures { λ r. ⌜ RuleRead (now (rule .entry)) r ⌝ }
 {
     let answer = read_rule(rule);
     match answer {
@@ -46,7 +43,7 @@ pub extern "C" fn pz_read_rule(rule: &[u8]) -> RuleReply
 // Reads a report.
 #[no_mangle]
 pub extern "C" fn pz_read_report(report: &[u8]) -> ReportReply
-    ensures { λ r. ⌜ r ≡ reportReply (reportAnswer (now (report .entry))) ⌝ }
+    ensures { λ r. ⌜ ReportRead (now (report .entry)) r ⌝ }
 {
     let answer = read_report(report);
     match answer {

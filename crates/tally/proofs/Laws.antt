@@ -8,17 +8,9 @@ use mathlib.Core.Bool.{Bool, true, false, cond, not, _||_}
 use mathlib.Core.Logic.{_⊎_, inl, inr, ⊎-elim}
 use borrow.Author.Tests.{eqb-true, eqb-false}
 use lib.Dec.{eqb}
-use Rattle.tally.specs.Tally.{tallyRefused, risen, Tallied}
+use Rattle.tally.specs.Tally.{Full, Balanced, tallyRefused, risen, Tallied}
 use Rattle.tally.specs.declared.export.Tally.{Tally}
 use Rattle.tally.specs.declared.export.Counted.{Counted}
-
--- The tally is full: seen is the largest number of 32 bits.
-abbrev pub Full : Tally → Type 0
-Full t = t .seen ≡ 4294967295
-
--- The tally is in balance: seen is the exact sum of the others.
-abbrev pub Balanced : Tally → Type 0
-Balanced t = t .seen ≡ t .selected + t .«passed_over»
 
 clash : {A : Type 0} → true ≡ false → A
 clash e = absurd (let k : _≡_ {A = ℕ} 0 1 = cc in omega arith)

@@ -7,6 +7,14 @@ use mathlib.Core.Bool.{Bool, cond, not, _||_}
 use lib.Dec.{eqb}
 use Rattle.tally.specs.declared.export.Tally.{Tally}
 
+-- The tally is full: seen is the largest number of 32 bits.
+abbrev pub Full : Tally → Type 0
+Full t = t .seen ≡ 4294967295
+
+-- The tally is in balance: seen is the exact sum of the others, of natural numbers.
+abbrev pub Balanced : Tally → Type 0
+Balanced t = t .seen ≡ t .selected + t .«passed_over»
+
 -- The tally is full, or seen is not the sum of the others: the exact sum, of natural numbers.
 unfoldable pub tallyRefused : Tally → Bool
 tallyRefused t = eqb (t .seen) 4294967295 || not (eqb (t .seen) (t .selected + t .«passed_over»))

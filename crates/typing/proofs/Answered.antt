@@ -182,7 +182,7 @@ module _ (text rule : List ℕ) (r : PathReply) (after : List ℕ) (x : Typed te
     taken-number h = let e = taken-told y h .0 in (ap (λ (q : PathReply). q .number) e, ap (λ (q : PathReply). q .place) e)
 
   -- There are no other rows: what follows from each of them holds.
-  by-row : {P : Type 0} → ((p : ℕ) → TextGets text (Refused 13 p) [] → P)
+  pub by-row : {P : Type 0} → ((p : ℕ) → TextGets text (Refused 13 p) [] → P)
       → ((t : Test) → TextOf text t → entriesMost < length (tableOf t) → P)
       → ((t : Test) → TextOf text t → (length (tableOf t) ≤ entriesMost) × (room < length (bytesFor t)) → P)
       → ((t : Test) → TextOf text t → (length (tableOf t) ≤ entriesMost) × (length (bytesFor t) ≤ room) → P) → P

@@ -15,7 +15,8 @@ use Rattle.terms.specs.Limits.{entriesMost}
 use Rattle.entry.specs.Entry.{entryAt}
 use Rattle.rules.specs.Rule.{ruleAnswer}
 use Rattle.rules.proofs.RuleLaws.{RuleMid}
-use Rattle.meaning.specs.OnePass.{LooksBack, stepBit, stepWord}
+use Rattle.meaning.specs.OnePass.{stepBit, stepWord}
+use Rattle.grammar.specs.Rules.{LooksBack}
 use Rattle.meaning.proofs.StepTable.{step-last}
 use Rattle.walk.specs.Walk.{looksAhead, Walked, unreadWalk, Asked, unaskedAhead}
 use Rattle.walk.specs.declared.walk.Ahead.{Ahead}

@@ -2,9 +2,8 @@
 -- last entry's bit of each word that pz_evaluate writes, and for a text that names neither `child` nor `right` each verdict of pz_open,
 -- is the text's own meaning. Over the promises of the calls. Assumes nothing.
 use Prim.Native.Nat.{ℕ, _≤_, _<_}
-use native.Mathlib.Omega.{arith}
 use mathlib.Core.Path.{_≡_, refl, sym, ap, _∙_}
-use mathlib.Core.Bool.{Bool, true, false}
+use mathlib.Core.Bool.{true}
 use mathlib.Core.List.{List, _∷_, _++_}
 use mathlib.Core.Logic.{_↔_}
 use lib.ListN.{length, getD, take, drop}
@@ -15,7 +14,7 @@ use Rattle.terms.specs.declared.answer.Answer.the-variants.{Accepted}
 use Rattle.numbers.specs.Bytes.{Bytes}
 use Rattle.numbers.proofs.Lists.{over-is}
 use Rattle.meaning.specs.Marks.{wordOf}
-use Rattle.meaning.specs.OnePass.{LooksBack}
+use Rattle.grammar.specs.Rules.{LooksBack}
 use Rattle.meaning.proofs.Reflect.{word-iff}
 use Rattle.marking.specs.Evaluation.{Evaluated}
 use Rattle.marking.specs.declared.report.Evaluation.{Evaluation}
@@ -37,14 +36,10 @@ use Rattle.paths.proofs.BackOnly.{table-back}
 use Rattle.typing.specs.Typed.{Typed}
 use Rattle.typing.specs.declared.export.PathReply.{PathReply}
 use Rattle.typing.proofs.Answered.{zero-iff, taken-bytes}
-use Rattle.both.proofs.Same.{opening-there}
+use Rattle.demands.proofs.Same.{bit-one, opening-there}
 use Rattle.rules.specs.Entries.{entriesOf}
 use Rattle.reports.specs.Elements.{labelsOf, levelsOf}
 use Rattle.numbers.specs.Bits.{bit, bitAt}
-
-bit-one : (b : Bool) → (bit b ≡ 1) ↔ (b ≡ true)
-bit-one true = (λ e. refl, λ e. refl)
-bit-one false = (λ e. absurd (omega arith), λ e. let z : _≡_ {A = ℕ} 0 1 = cc in absurd (omega arith))
 
 -- The call has taken the text of tree t, and left its rule at the front of the buffer.
 module _ (text lent after : List ℕ) (r : PathReply) (t : Test) (typed : Typed text lent r after) (zero : r .number ≡ 0) (spelt : TextOf text t) where
@@ -53,12 +48,12 @@ module _ (text lent after : List ℕ) (r : PathReply) (t : Test) (typed : Typed 
   rule = take (r .written) after
 
   -- It has few enough entries, and its bytes are those of the tree's table.
-  few : length (tableOf t) ≤ entriesMost
+  pub few : length (tableOf t) ≤ entriesMost
   few =
       let (u, y, (l, m)) = zero-iff text lent r after typed .0 zero in
       let same : u ≡ t = text-only u t (sym (y .spelt) ∙ spelt .spelt) in rw same at l
 
-  rule-is : rule ≡ bytesFor t
+  pub rule-is : rule ≡ bytesFor t
   rule-is =
       let (u, y, (l, m)) = zero-iff text lent r after typed .0 zero in
       let same : u ≡ t = text-only u t (sym (y .spelt) ∙ spelt .spelt) in

@@ -1,9 +1,11 @@
 -- Both engines say the same: feeding an accepted report's tags to one pass gives, at each opening, the last entry's bit of the word
 -- that the evaluator has written for that element. Over the promises of the two, by what both say of the meaning.
 -- Assumes nothing.
-use Prim.Native.Nat.{ℕ, pred, _+_, _<_}
+use Prim.Native.Nat.{ℕ, pred, _+_, _≤_, _<_}
 use native.Mathlib.Omega.{arith}
 use mathlib.Core.Path.{_≡_, refl, sym, ap, _∙_}
+use mathlib.Core.Bool.{Bool, true, false}
+use mathlib.Core.Logic.{_↔_}
 use mathlib.Core.List.{List, _∷_, _++_}
 use lib.ListN.{length, getD}
 use Rattle.reports.specs.Report.{reportAnswer, tagsOf as tagsIn}
@@ -13,7 +15,7 @@ use Rattle.terms.specs.declared.answer.Answer.the-variants.{Accepted}
 use Rattle.tag.proofs.TagLaws.{opened-append}
 use Rattle.numbers.specs.Bytes.{Bytes}
 use Rattle.grammar.proofs.Elements.{labels-accepted, elements-count, levels-elements}
-use Rattle.meaning.specs.OnePass.{LooksBack}
+use Rattle.grammar.specs.Rules.{LooksBack}
 use Rattle.marking.specs.Evaluation.{Evaluated}
 use Rattle.marking.specs.declared.report.Evaluation.{Evaluation}
 use Rattle.marking.proofs.Means.{word-is}
@@ -24,6 +26,15 @@ use Rattle.onepass.proofs.Agrees.{tags-append, report-fed}
 use Rattle.rules.specs.Entries.{entriesOf}
 use Rattle.reports.specs.Elements.{labelsOf, levelsOf}
 use Rattle.numbers.specs.Bits.{bit, bitAt}
+
+-- A bit is 1 exactly where it is set, and no more than that.
+pub bit-one : (b : Bool) → (bit b ≡ 1) ↔ (b ≡ true)
+bit-one true = (λ e. refl, λ e. refl)
+bit-one false = (λ e. absurd (omega arith), λ e. let z : _≡_ {A = ℕ} 0 1 = cc in absurd (omega arith))
+
+pub bit-few : (b : Bool) → bit b ≤ 1
+bit-few true = omega arith
+bit-few false = omega arith
 
 -- An opening among an accepted report's tags is one of its elements.
 pub opening-there : (report : List ℕ) (n : ℕ) → reportAnswer report ≡ Accepted n → (before : List Call) (label : ℕ) (r : StepReply) (later : List Call)
