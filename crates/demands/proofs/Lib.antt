@@ -9,3 +9,4 @@ pub mod Typed
 pub mod Written
 pub mod Prints
 pub mod Page
+pub mod Samples

@@ -31,13 +31,13 @@ use Rattle.grammar.proofs.Refusals.{rule-refused-iff, report-refused-iff}
 use Rattle.grammar.proofs.Elements.{labels-tree, levels-tree, levels-elements}
 use Rattle.meaning.specs.Marks.{wordOf, verdict, selected}
 use Rattle.meaning.specs.Rose.{labelsT, levelsT}
-use Rattle.meaning.proofs.Rose.{tree-labels, tree-levels}
+use Rattle.meaning.proofs.Rose.{tree-labels, tree-levels, tree-parent, tree-previous}
 use Rattle.meaning.proofs.Reflect.{verdict-iff}
 use Rattle.meaning.proofs.Words.{countBelow}
 use Rattle.marking.specs.Evaluation.{outcome, shortOfRoom, evaluation, wordsWritten, meantWords}
 use Rattle.marking.proofs.AnswerLaws.{outcome-sound}
 use Rattle.marking.proofs.Means.{word-is, bit-iff, selected-is, past-kept, counted}
-use Rattle.demands.specs.Demands.{Counts, none, with, without, EvaluateRow, of-rule, of-report, row-9, Evaluate, Demand2}
+use Rattle.demands.specs.Demands.{Counts, nothing, with, without, TreeRelations, EvaluateRow, of-rule, of-report, row-9, Evaluate, Demand2}
 use Rattle.demands.proofs.Follows.{clash, follows-of, other-uncounted}
 use Rattle.demands.proofs.Readers.{is-taken, is-entries, taken-is, is-accepted, accepted-is}
 
@@ -108,7 +108,7 @@ evaluate rule report marks after r rule-bytes bytes e =
 -- A count of passing numbers is the count of those with a property that the test tells.
 pub counts-of : (P : ℕ → Type 0) (f : ℕ → Bool) (n : ℕ) → ((s : ℕ) → s < n → (f s ≡ true) ↔ P s) → Counts P n (countBelow n f)
 unfolding countBelow
-counts-of P f zero told = none
+counts-of P f zero told = nothing
 counts-of P f (suc n) told = go (counts-of P f n (λ s l. told s (omega arith))) (f n) refl where
   go : Counts P n (countBelow n f) → (b : Bool) → f n ≡ b → Counts P (suc n) (countBelow n f + bit b)
   go before true e = rw (add-one (countBelow n f)) (with before (told n (omega arith) .0 e))
@@ -124,6 +124,9 @@ module _ {report : List ℕ} {t : Tree} (j : IsReport report t) where
 
   pub is-size : length (levelsT t 0) ≡ sizeT t
   is-size = ap length (sym is-levels) ∙ levels-elements report ∙ ap countOf (is-accepted j)
+
+pub tree-relations : TreeRelations
+tree-relations t p i l = (rw (← tree-levels t 0) (tree-parent t i l p), rw (← tree-levels t 0) (tree-previous t i l p))
 
 pub demand-2 : Demand2
 unfolding wordOf

@@ -1,7 +1,7 @@
 -- All statements of the page hold. Each is proved in the file that it is taken from here. Assumes nothing.
 use Rattle.demands.specs.Demands.{Page}
 use Rattle.demands.proofs.Readers.{rule-reader, report-reader, one-reading}
-use Rattle.demands.proofs.Marks.{evaluate, demand-2}
+use Rattle.demands.proofs.Marks.{evaluate, tree-relations, demand-2}
 use Rattle.demands.proofs.Steps.{start, open-and-close}
 use Rattle.demands.proofs.Verdicts.{demand-3, both-same}
 use Rattle.demands.proofs.Written.{count-verdict, read-path, typed-means}
@@ -18,6 +18,7 @@ page =
       open-and-close = open-and-close;
       count-verdict = count-verdict;
       read-path = read-path;
+      tree-relations = tree-relations;
       demand-2 = demand-2;
       demand-3 = demand-3;
       both-same = both-same;

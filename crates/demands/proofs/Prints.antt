@@ -73,9 +73,9 @@ module _ (input : List ℕ) (bytes : Bytes input) (some : 2 ≤ length input) (f
       record {
         short = rw rule-long number-small;
         bytes-are = sym (
-          rw (rule-long, ← bytes-back input 0 bytes (omega arith))
-          (ap (λ (x : List ℕ). take 2 input ++ x) later ∙ take-append-drop 2 input)
-        );
+            rw (rule-long, ← bytes-back input 0 bytes (omega arith))
+            (ap (λ (x : List ℕ). take 2 input ++ x) later ∙ take-append-drop 2 input)
+            );
       }
     where
       later : take (2 + numberAt input 0 - 2) (drop 2 input) ++ drop (2 + numberAt input 0) input ≡ drop 2 input
@@ -114,9 +114,9 @@ printout input bytes =
     elim (decLt (length input) 2) [
       | yes l ↦ short (ap (printoutAt input) (sym (split-short input l))) (λ rule report p. omega (arith, parts-fit p .0))
       | no n ↦ elim (decLt (length input) (ruleEnd input)) [
-          | yes l ↦ short (ap (printoutAt input) (sym (split-long input (ruleEnd input) refl (omega arith) l))) (λ rule report p. omega (arith, parts-fit p .1))
-          | no m ↦ whole (omega arith) (omega arith)
-        ]
+        | yes l ↦ short (ap (printoutAt input) (sym (split-long input (ruleEnd input) refl (omega arith) l))) (λ rule report p. omega (arith, parts-fit p .1))
+        | no m ↦ whole (omega arith) (omega arith)
+      ]
     ]
   where
     short : printoutOf input ≡ printoutAt input unsplit → ((rule report : List ℕ) → Parts input rule report → ⊥) → Printed input (printoutOf input)

@@ -12,6 +12,7 @@ use mathlib.Core.Path.{_≡_}
 use mathlib.Core.Bool.{Bool, true, false}
 use mathlib.Core.List.{List, [], _∷_, _++_}
 use mathlib.Core.Logic.{_⊎_, _↔_}
+use mathlib.Core.Option.{none, some}
 use lib.ListN.{length, getD, take, drop, replicate}
 use Rattle.numbers.specs.Bytes.{Bytes, twoBytes}
 use Rattle.numbers.specs.Bits.{bitAt}
@@ -23,7 +24,8 @@ use Rattle.grammar.specs.When.{Sized, RuleRefused, ReportRefused, Mislabelled, 
 use Rattle.grammar.specs.Rules.{IsRule, LooksBack}
 use Rattle.grammar.specs.Reports.{Tree, sizeT, tagsT, bytesOf, IsReport}
 use Rattle.meaning.specs.Meaning.{Holds}
-use Rattle.meaning.specs.Rose.{labelsT, levelsT}
+use Rattle.meaning.specs.Rose.{labelsT, levelsT, parentsT, previousT}
+use Rattle.meaning.specs.Tree.{Child, Next}
 use Rattle.records.specs.Reply.{RuleRead, ReportRead}
 use Rattle.records.specs.declared.export.RuleReply.{RuleReply}
 use Rattle.records.specs.declared.export.ReportReply.{ReportReply}
@@ -175,9 +177,17 @@ ReadPath = (text rule after : List ℕ) (r : PathReply) → Typed text rule r af
 
 -- How many of the numbers below n have a property.
 pub data Counts (P : ℕ → Type 0) : (n count : ℕ) → Type 0 where
-  none : Counts P 0 0
+  nothing : Counts P 0 0
   with : {n c : ℕ} → Counts P n c → P n → Counts P (suc n) (suc c)
   without : {n c : ℕ} → Counts P n c → (P n → ⊥) → Counts P (suc n) c
+
+-- What an entry means is said over the relations Child and Next of a tree's levels. They are the tree's own: p is the parent of element
+-- i in the tree, or its previous sibling there, the elements being numbered in order of opening.
+abbrev pub TreeRelations : Type 0
+TreeRelations =
+    (t : Tree) (p i : ℕ) → i < sizeT t
+    → (Child (levelsT t 0) p i ↔ (getD (parentsT t 0 none) i none ≡ some p))
+    × (Next (levelsT t 0) p i ↔ (getD (previousT t 0 none) i none ≡ some p))
 
 -- Entry i of a rule holds at element s of a tree; the verdict is the last entry's.
 abbrev pub HoldsIn : Tree → List Entry → (i s : ℕ) → Type 0
@@ -291,6 +301,7 @@ pub record Page : Type 0 where
   pub count-verdict : CountVerdict
   pub read-path : ReadPath
   -- Demands 2 and 3, and that both engines say the same.
+  pub tree-relations : TreeRelations
   pub demand-2 : Demand2
   pub demand-3 : Demand3
   pub both-same : BothSame

@@ -1,2 +1,3 @@
--- What must be believed. Everything that its statements use is listed in docs/TRUSTED.md.
+-- What must be believed, and the documents' cases as bytes.
 pub mod Demands
+pub mod Samples
