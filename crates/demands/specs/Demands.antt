@@ -6,6 +6,7 @@
 -- What the statements use: rules and reports as texts and the rows of refusals (crate grammar, specs/Rules, Reports and When), the tree
 -- and what an entry means on it (crate meaning, specs/Tree, Rose and Meaning), typed rules (crate paths), the state's numbers (crate
 -- state, specs/State), the lines of a printout (crate text, specs/Text).
+-- Promises: RuleRead ReportRead Evaluated Started Opened Closed Tallied Typed printoutOf.
 -- The record `Page` at the end has all statements, and `page` in proofs/Page.antt proves it. Assumes nothing.
 use Prim.Native.Nat.{ℕ, suc, pred, _≤_, _<_}
 use mathlib.Core.Path.{_≡_}
