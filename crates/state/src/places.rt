@@ -76,8 +76,8 @@ pub(crate) fn store_opening(s: &mut [u8], d: usize, elements: usize, w: u64)
     let presence = word_at(s, PRESENCE);
     put_word(s, PRESENCE, cleared_below(presence, d));
     put_word(s, OPEN_WORDS + 8 * d, w);
-    put_number(s, DEPTH, d + 1);
-    put_number(s, ELEMENTS, elements + 1);
+    put_number(s, DEPTH, (d + 1) as u64);
+    put_number(s, ELEMENTS, (elements + 1) as u64);
 }
 
 // Stores what closing writes that leaves depth d.
@@ -90,6 +90,6 @@ pub(crate) fn store_closing(s: &mut [u8], d: usize)
     let root = number_at(s, ROOT);
     put_word(s, PRESENCE, with_bit(presence, d, true));
     put_word(s, LAST_WORDS + 8 * d, w);
-    put_number(s, DEPTH, d);
-    put_number(s, ROOT, root_after(root, d));
+    put_number(s, DEPTH, d as u64);
+    put_number(s, ROOT, root_after(root, d) as u64);
 }

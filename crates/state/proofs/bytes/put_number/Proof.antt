@@ -1,10 +1,10 @@
--- `put_two` stores the two bytes. Assumes nothing.
+-- `put_number` stores the two bytes. Assumes nothing.
 use mathlib.Core.Path.{sym, _∙_}
 use native.Mathlib.Omega.{arith}
 use lib.ListN.{length-set}
 use borrow.Author.Needs.{needs}
-use Rattle.state.proofs.bytes.put_two.Statement.{statement}
-use Rattle.state.proofs.bytes.put_two.Tie as tie
+use Rattle.state.proofs.bytes.put_number.Statement.{statement}
+use Rattle.state.proofs.bytes.put_number.Tie as tie
 use Rattle.numbers.proofs.ByteLaws.{put-none, put-step}
 
 cast-s : tie.Need-cast-s
@@ -28,6 +28,6 @@ same-length c = search needs
 returns : tie.Need-returns
 returns c = sym (put-step 1 _ _ _ ∙ put-step 0 _ _ _ ∙ put-none _ _ _)
 
-pub put-two-spec : {M : Type 1} → statement M
-put-two-spec =
+pub put-number-spec : {M : Type 1} → statement M
+put-number-spec =
     tie.close (tie.spec cast-s slice-write-s cast-s-2 add-s slice-write-s-2 same-length returns)
