@@ -28,7 +28,8 @@ use Rattle.grammar.proofs.Refusals.{rule-refused-iff}
 use Rattle.meaning.specs.OnePass.{fault}
 use Rattle.walk.specs.Walk.{looksAhead}
 use Rattle.walk.proofs.WalkLaws.{back-ahead}
-use Rattle.state.specs.State.{stateSize, depthIn, elementsIn, rootIn, stateOf, bad, Good}
+use Rattle.fields.specs.Fields.{stateSize, badSize}
+use Rattle.state.specs.State.{depthIn, elementsIn, rootIn, stateOf, bad, Good}
 use Rattle.state.specs.Promises.{startNumber, stateNumber}
 use Rattle.state.specs.Stores.{startAfter}
 use Rattle.state.proofs.GoodLaws.{good-iff}
@@ -43,31 +44,27 @@ use Rattle.demands.proofs.Readers.{is-taken, is-entries, taken-is}
 
 -- ---- start
 
-cond-not : (b : Bool) (n : ℕ) → cond (not b) n 0 ≡ cond b 0 n
-cond-not true n = refl
-cond-not false n = refl
-
 start-row : (state : List ℕ) (k p : ℕ) → StartRow state k p → (length state ≡ stateSize → ⊥) × (11 ≡ k) × (0 ≡ p)
 start-row state k p (row-11 n) = (n, refl, refl)
 
 pub start : Start
-unfolding startNumber startAfter
+unfolding startNumber startAfter badSize
 start state after r e =
     record {
-      follows = rw (e .answer, ← cond-not (eqb (length state) stateSize) 11)
+      follows = rw (e .answer)
           (one-row (StartRow state) _ 11 (omega arith) (not-tests (eqb-tests (length state) stateSize)) row-11 (start-row state));
-      kept = λ h. e .state-is ∙ still (eqb (length state) stateSize) (λ z. h (rw (e .answer) z));
-      zeros = λ z. e .state-is ∙ cleared (eqb (length state) stateSize) (rw (e .answer) at z);
+      kept = λ h. e .state-is ∙ still (badSize (length state)) (λ z. h (rw (e .answer) z));
+      zeros = λ z. e .state-is ∙ cleared (badSize (length state)) (rw (e .answer) at z);
       unjudged = ap (λ (x : StepReply). x .verdict) (e .answer);
     }
   where
-    still : (b : Bool) → (_≡_ {A = ℕ} (cond b 0 11) 0 → ⊥) → cond b (replicate stateSize 0) state ≡ state
-    still true h = absurd (h refl)
-    still false h = refl
+    still : (b : Bool) → (_≡_ {A = ℕ} (cond b 11 0) 0 → ⊥) → cond b state (replicate stateSize 0) ≡ state
+    still true h = refl
+    still false h = absurd (h refl)
 
-    cleared : (b : Bool) → _≡_ {A = ℕ} (cond b 0 11) 0 → cond b (replicate stateSize 0) state ≡ replicate stateSize 0
-    cleared true z = refl
-    cleared false z = absurd (omega arith)
+    cleared : (b : Bool) → _≡_ {A = ℕ} (cond b 11 0) 0 → cond b state (replicate stateSize 0) ≡ replicate stateSize 0
+    cleared true z = absurd (omega arith)
+    cleared false z = refl
 
 -- ---- the tag's rows
 

@@ -32,7 +32,8 @@ use Rattle.records.specs.declared.export.RuleReply.{RuleReply}
 use Rattle.records.specs.declared.export.ReportReply.{ReportReply}
 use Rattle.marking.specs.Evaluation.{Evaluated}
 use Rattle.marking.specs.declared.report.Evaluation.{Evaluation}
-use Rattle.state.specs.State.{stateSize, depthIn, elementsIn, rootIn, Good}
+use Rattle.fields.specs.Fields.{stateSize}
+use Rattle.state.specs.State.{depthIn, elementsIn, rootIn, Good}
 use Rattle.onepass.specs.Step.{Started}
 use Rattle.onepass.specs.Calls.{Promised, Call, Calls, tagsCalled, takenTags}
 use Rattle.onepass.specs.declared.export.StepReply.{StepReply}

@@ -10,7 +10,7 @@ use mathlib.Core.Path.{_≡_, refl, sym, ap, subst, _∙_}
 use mathlib.Core.Bool.{Bool, true, false, cond}
 use mathlib.Core.List.{List, [], _∷_, _++_, append-assoc, append-nil}
 use lib.Dec.{eqb}
-use lib.ListN.{length, replicate}
+use lib.ListN.{length}
 use Rattle.terms.specs.declared.answer.Answer.{Answer}
 use Rattle.terms.specs.declared.answer.Answer.the-variants.{Accepted, Refused}
 use Rattle.entry.specs.declared.entry.Entry.{Entry}
@@ -30,9 +30,9 @@ use Rattle.meaning.proofs.Agrees.{verdict-agrees as table-agrees}
 use Rattle.meaning.proofs.Taken.{taken-append, taken-fit, after-append}
 use Rattle.walk.proofs.WalkLaws.{back-ahead}
 use Rattle.state.specs.Promises.{startNumber}
-use Rattle.state.specs.State.{stateSize, stateOf, Good}
-use Rattle.state.specs.Stores.{startAfter, bytesAfter}
-use Rattle.state.proofs.StateLaws.{zeros-fresh, zeros-good, zeros-bytes}
+use Rattle.state.specs.State.{stateOf, Good}
+use Rattle.state.specs.Stores.{bytesAfter}
+use Rattle.state.proofs.NumberLaws.{start-fresh, start-good, start-bytes}
 use Rattle.state.proofs.WrittenLaws.{written-state, written-good, written-bytes}
 use Rattle.onepass.specs.Calls.{Call, Promised, Calls, done, then, tagsCalled, taken, takenTags, BeginsWith}
 use Rattle.onepass.specs.Step.{callNumber, callOutcome, answerOf, stateAfter, Started, Opened}
@@ -193,23 +193,19 @@ module _ (rule : List ℕ) (m : ℕ) (accepted : ruleAnswer rule ≡ Accepted m)
   -- ---- from a started state
 
   module _ (given start : List ℕ) (r₀ : StepReply) (started : Started given r₀ start) (begun : r₀ .number ≡ 0) where
-    start-zeros : start ≡ replicate stateSize 0
-    unfolding startNumber startAfter
-    start-zeros = go (eqb (length given) stateSize) (ap (λ (x : StepReply). x .number) (started .answer)) (started .state-is) where
-      go : (b : Bool) → r₀ .number ≡ cond b 0 11 → start ≡ cond b (replicate stateSize 0) given → start ≡ replicate stateSize 0
-      go true e f = f
-      go false e f = absurd (omega (arith, begun, e))
+    start-taken : startNumber given ≡ 0
+    start-taken = sym (ap (λ (x : StepReply). x .number) (started .answer)) ∙ begun
 
     -- What start writes is the fresh state.
     started-state : stateOf start ≡ fresh
-    started-state = rw start-zeros (zeros-fresh stateSize)
+    started-state = rw (started .state-is) (start-fresh given start-taken)
 
     started-reached : ReachedBy [] start
     unfolding Taken afterAll
     started-reached =
         record {
-          good = rw start-zeros zeros-good;
-          bytes = rw start-zeros (zeros-bytes stateSize);
+          good = rw (started .state-is) (start-good given start-taken);
+          bytes = rw (started .state-is) (start-bytes given start-taken);
           state-is = started-state;
           taken-are = tt;
         }

@@ -1,52 +1,23 @@
 -- The test for bad states lets a state through exactly where no clause of the document applies. Assumes nothing.
-use Prim.Native.Nat.{ℕ, _<_}
-use native.Mathlib.Omega.{arith}
-use mathlib.Core.Path.{_≡_}
-use mathlib.Core.Bool.{false}
+use Prim.Native.Nat.{ℕ}
+use mathlib.Core.Path.{_≡_, refl}
+use mathlib.Core.Bool.{Bool, true, false, _||_}
 use mathlib.Core.List.{List}
-use mathlib.Core.Logic.{_↔_, _⊎_, inl, inr}
+use mathlib.Core.Logic.{_↔_}
 use lib.ListN.{length, getD}
-use Rattle.terms.specs.Limits.{elementsMost, levelsMost}
-use Rattle.numbers.proofs.Tells.{IsTest, false-iff, test-stable, eqb-tests, ltb-tests, not-tests, or-tests, and-tests}
-use Rattle.state.specs.State.{stateSize, depthIn, elementsIn, rootIn, bad, Good}
+use Rattle.numbers.proofs.First.{clash}
+use Rattle.fields.proofs.FieldLaws.{size-iff, good-fields-iff}
+use Rattle.state.specs.State.{depthIn, elementsIn, rootIn, bad, Good}
 
-abbrev Bad : List ℕ → Type 0
-Bad s = (length s ≡ stateSize → ⊥)
-    ⊎ ((((((levelsMost < depthIn s) ⊎ (elementsIn s < depthIn s)) ⊎ (elementsMost < elementsIn s)) ⊎ (1 < rootIn s))
-    ⊎ ((rootIn s ≡ 1) × (depthIn s ≡ 0 → ⊥))) ⊎ (((getD s 6 0 ≡ 0) × (getD s 7 0 ≡ 0)) → ⊥))
+neither : (a b : Bool) → (a || b) ≡ false → (a ≡ false) × (b ≡ false)
+neither true b e = clash refl e
+neither false b e = (refl, e)
 
-bad-told : (s : List ℕ) → IsTest (Bad s) (bad s)
-unfolding bad
-bad-told s =
-    or-tests (not-tests (eqb-tests (length s) stateSize))
-    (or-tests (or-tests (or-tests (or-tests (or-tests (ltb-tests levelsMost (depthIn s)) (ltb-tests (elementsIn s) (depthIn s))) (ltb-tests elementsMost (elementsIn s)))
-    (ltb-tests 1 (rootIn s))) (and-tests (eqb-tests (rootIn s) 1) (not-tests (eqb-tests (depthIn s) 0))))
-    (not-tests (and-tests (eqb-tests (getD s 6 0) 0) (eqb-tests (getD s 7 0) 0))))
-
--- The test lets a state through exactly where no clause of "Bad" applies.
+-- A state is not bad exactly where it is good.
 pub good-iff : (s : List ℕ) → (bad s ≡ false) ↔ Good s
-good-iff s = (λ e. good (false-iff (bad-told s) .0 e), λ g. false-iff (bad-told s) .1 (fair g)) where
-  good : (Bad s → ⊥) → Good s
-  good n =
-      let a : levelsMost < depthIn s → ⊥ = λ q. n (inr (inl (inl (inl (inl (inl q)))))) in
-      let b : elementsIn s < depthIn s → ⊥ = λ q. n (inr (inl (inl (inl (inl (inr q)))))) in
-      let c : elementsMost < elementsIn s → ⊥ = λ q. n (inr (inl (inl (inl (inr q))))) in
-      let d : 1 < rootIn s → ⊥ = λ q. n (inr (inl (inl (inr q)))) in
-      record {
-        long = test-stable (eqb-tests (length s) stateSize) (λ q. n (inl q));
-        shallow = omega arith;
-        within = omega arith;
-        few = omega arith;
-        flag = omega arith;
-        shut = λ r. test-stable (eqb-tests (depthIn s) 0) (λ q. n (inr (inl (inr (r, q)))));
-        spare = test-stable (and-tests (eqb-tests (getD s 6 0) 0) (eqb-tests (getD s 7 0) 0)) (λ q. n (inr (inr q)));
-      }
-
-  fair : Good s → Bad s → ⊥
-  fair g (inl n) = n (g .long)
-  fair g (inr (inl (inl (inl (inl (inl q)))))) = omega (arith, g .shallow)
-  fair g (inr (inl (inl (inl (inl (inr q)))))) = omega (arith, g .within)
-  fair g (inr (inl (inl (inl (inr q))))) = omega (arith, g .few)
-  fair g (inr (inl (inl (inr q)))) = omega (arith, g .flag)
-  fair g (inr (inl (inr q))) = q .1 (g .shut (q .0))
-  fair g (inr (inr n)) = n (g .spare)
+unfolding bad
+good-iff s =
+    let fields = good-fields-iff (depthIn s) (elementsIn s) (rootIn s) (getD s 6 0) (getD s 7 0) in (
+      λ e. let n = neither _ _ e in record { long = size-iff (length s) .0 (n .0); fair = fields .0 (n .1) },
+      λ g. rw (size-iff (length s) .1 (g .long), fields .1 (g .fair)),
+    )

@@ -1,7 +1,7 @@
 -- When a tag is taken, what it may read and write then, and what each return of the code promises. Assumes nothing.
 use Prim.Native.Nat.{ℕ, _-_, _≤_, _<_}
 use native.Mathlib.Omega.{arith}
-use borrow.Author.Tests.{eq-eqb, ne-eqb, eqb-false, lt-ltb, le-ltb}
+use borrow.Author.Tests.{ne-eqb, eqb-false, lt-ltb, le-ltb}
 use mathlib.Core.Path.{_≡_, refl, sym, ap, _∙_}
 use mathlib.Core.Bool.{Bool, true, false, cond, _||_}
 use mathlib.Core.List.{List}
@@ -11,13 +11,16 @@ use Rattle.entry.specs.declared.entry.Entry.{Entry}
 use Rattle.terms.specs.Limits.{elementsMost, levelsMost, outside}
 use Rattle.tag.specs.Tags.{Tag, opens, closes, tagFault}
 use Rattle.tag.proofs.RecordLaws.{open-sound, close-sound}
-use Rattle.meaning.specs.OnePass.{fault, stepWord, openedWord}
+use Rattle.meaning.specs.OnePass.{fresh, fault, stepWord, openedWord}
 use Rattle.state.specs.Promises.{readable, parentIn, siblingIn, WordsRead, startNumber, stateNumber, StateStarted, StateOpened, StateClosed}
-use Rattle.state.specs.State.{stateSize, depthIn, elementsIn, rootIn, stateOf, bad, Good}
+use Rattle.fields.specs.Fields.{stateSize, badSize}
+use Rattle.fields.proofs.FieldLaws.{size-passed}
+use Rattle.state.specs.State.{depthIn, elementsIn, rootIn, stateOf, bad, Good}
 use Rattle.state.specs.Stores.{startAfter, openedBytes, closedBytes}
 use Rattle.state.specs.declared.state.Words.{Words}
 use Rattle.state.proofs.GoodLaws.{good-iff}
-use Rattle.state.proofs.StateLaws.{parent-read, sibling-read}
+use Rattle.state.proofs.StateLaws.{parent-read, sibling-read, zeros-fresh, zeros-good, zeros-bytes}
+use Rattle.numbers.specs.Bytes.{Bytes}
 use Rattle.numbers.proofs.BitLaws.{pred-sub}
 
 -- ---- when a tag is taken
@@ -67,7 +70,7 @@ module _ (s : List ℕ) where
 
   -- What a closing that is taken may.
   pub closes-fine : stateNumber s closes ≡ 0 → (length s ≡ stateSize) × (0 < depthIn s) × (depthIn s ≤ levelsMost)
-  closes-fine z = let r = state-taken s closes z in (r .0 .long, closes-room (r .1), r .0 .shallow)
+  closes-fine z = let r = state-taken s closes z in (r .0 .long, closes-room (r .1), r .0 .fair .shallow)
 
 -- ---- the test, as the code has it
 
@@ -119,16 +122,38 @@ opened-read es s l r w z =
 
 -- ---- what is written
 
--- Start with another length.
-pub start-refused : (s : List ℕ) → (length s ≡ stateSize → ⊥) → StateStarted s 11 s
-unfolding startNumber startAfter
-start-refused s n = record { number-is = rw (ne-eqb (length s) stateSize n); state-is = rw (ne-eqb (length s) stateSize n) }
+module _ (s : List ℕ) (b : Bool) (tested : b ≡ badSize (length s)) where
+  -- Start with another size.
+  pub start-refused : b ≡ true → StateStarted s 11 s
+  unfolding startNumber startAfter
+  start-refused e = record { number-is = rw (← tested, e); state-is = rw (← tested, e) }
 
--- Start with 1,040 bytes.
-pub start-done : (s after : List ℕ) → length s ≡ stateSize → after ≡ replicate (length s) 0 → StateStarted s 0 after
-unfolding startNumber startAfter
-start-done s after e f =
-    record { number-is = rw (eq-eqb (length s) stateSize e); state-is = rw (eq-eqb (length s) stateSize e) (f ∙ ap (λ (n : ℕ). replicate n 0) e) }
+  -- Start with 1,040 bytes.
+  pub start-done : (after : List ℕ) → b ≡ false → after ≡ replicate (length s) 0 → StateStarted s 0 after
+  unfolding startNumber startAfter
+  start-done after e f =
+      record {
+        number-is = rw (← tested, e);
+        state-is = rw (← tested, e) (f ∙ ap (λ (n : ℕ). replicate n 0) (size-passed (length s) b tested e));
+      }
+
+-- What start leaves, if it is not refused, is zeros: the fresh state, one that passes the test, and bytes.
+module _ (s : List ℕ) (z : startNumber s ≡ 0) where
+  start-zeros : startAfter s ≡ replicate stateSize 0
+  unfolding startNumber startAfter
+  start-zeros = go (badSize (length s)) z where
+    go : (b : Bool) → _≡_ {A = ℕ} (cond b 11 0) 0 → cond b s (replicate stateSize 0) ≡ replicate stateSize 0
+    go true e = absurd (omega arith)
+    go false e = refl
+
+  pub start-fresh : stateOf (startAfter s) ≡ fresh
+  start-fresh = rw start-zeros (zeros-fresh stateSize)
+
+  pub start-good : Good (startAfter s)
+  start-good = rw start-zeros zeros-good
+
+  pub start-bytes : Bytes (startAfter s)
+  start-bytes = rw start-zeros (zeros-bytes stateSize)
 
 module _ (s : List ℕ) (k : ℕ) where
   -- An opening that is refused: the number, and the bytes as they were.
@@ -137,8 +162,8 @@ module _ (s : List ℕ) (k : ℕ) where
 
   -- One that is taken: what opening writes.
   pub open-taken : (l w d e : ℕ) (after : List ℕ) → k ≡ stateNumber s (opens l) → k ≡ 0 → d ≡ depthIn s → e ≡ elementsIn s
-      → after ≡ openedBytes d e w s → StateOpened s l w 0 after
-  open-taken l w d e after n z dd ee aa = record { number-is = sym z ∙ n; state-is = rw (← n, z, ← dd, ← ee) aa }
+      → after ≡ openedBytes d e w s → StateOpened s l w k after
+  open-taken l w d e after n z dd ee aa = record { number-is = n; state-is = rw (← n, z, ← dd, ← ee) aa }
 
   -- A closing that is refused.
   pub close-refused : k ≡ stateNumber s closes → (k ≡ 0 → ⊥) → StateClosed s k s
@@ -146,5 +171,5 @@ module _ (s : List ℕ) (k : ℕ) where
 
   -- One that is taken: what closing writes.
   pub close-taken : (d : ℕ) (after : List ℕ) → k ≡ stateNumber s closes → k ≡ 0 → d ≡ depthIn s → after ≡ closedBytes (d - 1) s
-      → StateClosed s 0 after
-  close-taken d after n z dd aa = record { number-is = sym z ∙ n; state-is = rw (← n, z, ← dd, ← pred-sub d) aa }
+      → StateClosed s k after
+  close-taken d after n z dd aa = record { number-is = n; state-is = rw (← n, z, ← dd, ← pred-sub d) aa }

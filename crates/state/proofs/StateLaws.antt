@@ -2,26 +2,26 @@
 -- the state is after a run of stores, whatever they are. Assumes nothing.
 use Prim.Native.Nat.{ℕ, zero, suc, pred, _+_, _^_, _≤_, _<_}
 use native.Mathlib.Nat.{zero-div}
-use native.Mathlib.Numerals.{add-one}
 use native.Mathlib.Omega.{arith}
-use borrow.Author.Tests.{eq-eqb, ne-eqb, ltb-true}
-use mathlib.Core.Path.{_≡_, refl, ap, _∙_}
+use mathlib.Core.Path.{_≡_, refl, ap}
 use mathlib.Core.Bool.{Bool, true, false, cond}
 use mathlib.Core.List.{List}
-use lib.Dec.{eqb, ltb}
-use lib.ListN.{length, getD, set, replicate, length-replicate}
+use lib.Dec.{eqb}
+use lib.ListN.{length, getD, replicate, length-replicate}
 use Rattle.entry.specs.declared.entry.Entry.{Entry}
 use Rattle.terms.specs.Limits.{elementsMost, levelsMost}
 use Rattle.numbers.specs.Bytes.{Bytes, wordAt}
 use Rattle.meaning.specs.OnePass.{State, fresh, parentWord, siblingWord}
 use Rattle.state.specs.Layout.{countIn, placeFrom, widthIn, sizeIn, Store, numberIn, stored}
-use Rattle.state.specs.State.{stateSize, depthIn, elementsIn, rootIn, presenceIn, openPlace, lastPlace, layout, stateOf, Good}
-use Rattle.state.specs.Stores.{clearedBelow, openingRun, rootAfter, closingRun}
-use Rattle.numbers.proofs.WithBit.{with-bit-small, with-bit-at}
+use Rattle.state.specs.State.{depthIn, elementsIn, rootIn, presenceIn, openPlace, lastPlace, layout, stateOf, Good}
+use Rattle.state.specs.Stores.{openingRun, closingRun}
+use Rattle.fields.specs.Fields.{stateSize, presentWord}
+use Rattle.fields.proofs.FieldLaws.{cleared-small, root-below}
+use Rattle.numbers.proofs.WithBit.{with-bit-small}
 use Rattle.numbers.proofs.ByteLaws.{word-small}
-use Rattle.numbers.proofs.Lists.{listed-at, listed-same, listed-all, listed-set}
+use Rattle.numbers.proofs.Lists.{listed-at, listed-same, listed-all}
 use Rattle.state.proofs.RunLaws.{lastStored, Fits, read-run}
-use Rattle.numbers.specs.Bits.{bitAt, wordBits, withBit}
+use Rattle.numbers.specs.Bits.{bitAt, wordBits}
 use Rattle.numbers.specs.Lists.{listed}
 
 -- Two states with the same parts are one.
@@ -44,7 +44,7 @@ module _ (es : List Entry) (s : List ℕ) where
 
   -- The previous sibling's is last word d, and 0 where presence bit d is.
   pub sibling-read : depthIn s < levelsMost
-      → siblingWord es (stateOf s) ≡ cond (bitAt (presenceIn s) (depthIn s)) (wordAt 8 s (lastPlace (depthIn s))) 0
+      → siblingWord es (stateOf s) ≡ presentWord (presenceIn s) (depthIn s) (wordAt 8 s (lastPlace (depthIn s)))
   unfolding stateOf
   sibling-read l =
       rw (listed-at levelsMost (bitAt (presenceIn s)) (depthIn s) false l, listed-at levelsMost (λ i. wordAt 8 s (lastPlace i)) (depthIn s) 0 l)
@@ -78,12 +78,15 @@ zeros-good =
     let r : rootIn (replicate stateSize 0) ≡ 0 = zeros-word _ stateSize _ in
     record {
       long = length-replicate {A = ℕ} stateSize 0;
-      shallow = omega arith;
-      within = omega arith;
-      few = omega arith;
-      flag = omega arith;
-      shut = λ q. d;
-      spare = (zeros-at stateSize 6, zeros-at stateSize 7);
+      fair =
+          record {
+            shallow = omega arith;
+            within = omega arith;
+            few = omega arith;
+            flag = omega arith;
+            shut = λ q. d;
+            spare = (zeros-at stateSize 6, zeros-at stateSize 7);
+          };
     }
 
 -- Zeros are bytes.
@@ -116,35 +119,6 @@ module _ (xs : List Store) (s : List ℕ) (long : length s ≡ stateSize) (fits 
 
 -- ---- the runs of opening and closing
 
--- The bits of a word with one bit put to a value.
-pub with-bit-listed : (i w : ℕ) (on : Bool) → i < levelsMost → listed levelsMost (bitAt (withBit i on w)) ≡ set (listed levelsMost (bitAt w)) i on
-with-bit-listed i w on l =
-    listed-set levelsMost (bitAt w) (bitAt (withBit i on w)) i on l (with-bit-at i w on i l ∙ rw (eq-eqb i i refl))
-    (λ j m n. with-bit-at i w on j m ∙ rw (ne-eqb j i n))
-
-cleared-small : (d p : ℕ) → p < 2 ^ wordBits → clearedBelow d p < 2 ^ wordBits
-unfolding clearedBelow
-cleared-small d p h = go (ltb d 63) where
-  go : (b : Bool) → cond b (withBit (d + 1) false p) p < 2 ^ wordBits
-  go true = with-bit-small (d + 1) p false
-  go false = h
-
--- The bits of the presence word after it.
-pub cleared-listed : (d p : ℕ) → listed levelsMost (bitAt (clearedBelow d p)) ≡ cond (ltb d 63) (set (listed levelsMost (bitAt p)) (suc d) false) (listed levelsMost (bitAt p))
-unfolding clearedBelow
-cleared-listed d p = go (ltb d 63) refl where
-  go : (b : Bool) → ltb d 63 ≡ b
-      → listed levelsMost (bitAt (cond b (withBit (d + 1) false p) p)) ≡ cond b (set (listed levelsMost (bitAt p)) (suc d) false) (listed levelsMost (bitAt p))
-  go true q = let l = ltb-true d 63 q in rw (add-one d) (with-bit-listed (suc d) p false (omega arith))
-  go false q = refl
-
-root-narrow : (d r : ℕ) → r < 256 ^ 2 → rootAfter d r < 256 ^ 2
-unfolding rootAfter
-root-narrow d r h = go (eqb d 0) where
-  go : (b : Bool) → cond b 1 r < 256 ^ 2
-  go true = omega arith
-  go false = h
-
 module _ (d : ℕ) (s : List ℕ) (bytes : Bytes s) (ld : d < levelsMost) where
   -- What opening stores fits.
   pub opening-fits : (e w : ℕ) → e < elementsMost → w < 2 ^ wordBits → Fits layout (openingRun d e w (presenceIn s))
@@ -156,4 +130,4 @@ module _ (d : ℕ) (s : List ℕ) (bytes : Bytes s) (ld : d < levelsMost) where
   pub closing-fits : Fits layout (closingRun d (wordAt 8 s (openPlace d)) (presenceIn s) (rootIn s))
   unfolding Fits countIn widthIn
   closing-fits =
-      ((omega arith, with-bit-small d _ true), ((ld, word-small 8 s bytes (openPlace d)), ((omega arith, omega arith), ((omega arith, root-narrow d _ (word-small 2 s bytes 4)), tt))))
+      ((omega arith, with-bit-small d _ true), ((ld, word-small 8 s bytes (openPlace d)), ((omega arith, omega arith), ((omega arith, root-below _ d _ (omega arith) (word-small 2 s bytes 4)), tt))))

@@ -4,11 +4,9 @@ use Prim.Native.Nat.{ℕ, pred, _^_, _≤_, _<_}
 use native.Mathlib.Nat.{lt-of-lt-of-le}
 use native.Mathlib.Numerals.{add-one}
 use native.Mathlib.Omega.{arith}
-use borrow.Author.Tests.{eqb-true}
 use mathlib.Core.Path.{_≡_, refl, sym, _∙_}
-use mathlib.Core.Bool.{Bool, true, false, cond}
+use mathlib.Core.Bool.{true}
 use mathlib.Core.List.{List}
-use lib.Dec.{eqb}
 use lib.ListN.{length, getD}
 use lib.Pow.{pow-mono}
 use Rattle.entry.specs.declared.entry.Entry.{Entry}
@@ -17,33 +15,19 @@ use Rattle.tag.specs.Tags.{Tag, opens, closes}
 use Rattle.numbers.specs.Bytes.{Bytes, wordAt}
 use Rattle.meaning.specs.OnePass.{State, fault, openedWord, opened, closed, after}
 use Rattle.meaning.proofs.StepTable.{step-small}
+use Rattle.fields.proofs.FieldLaws.{with-bit-listed, cleared-listed, root-below, root-told, root-shut}
 use Rattle.state.specs.Layout.{countIn, placeFrom, widthIn}
 use Rattle.state.specs.State.{depthIn, elementsIn, rootIn, presenceIn, openPlace, layout, stateOf, Good}
-use Rattle.state.specs.Stores.{openingRun, openedBytes, rootAfter, closingRun, closedBytes, bytesAfter}
+use Rattle.state.specs.Stores.{openingRun, openedBytes, closingRun, closedBytes, bytesAfter}
 use Rattle.state.proofs.NumberLaws.{opens-room, closes-room}
 use Rattle.numbers.proofs.Lists.{listed-at, listed-put}
 use Rattle.state.proofs.RunLaws.{lastStored, Fits, run-length, run-bytes}
-use Rattle.state.proofs.StateLaws.{state-same, run-number, run-state, with-bit-listed, cleared-listed, opening-fits, closing-fits}
+use Rattle.state.proofs.StateLaws.{state-same, run-number, run-state, opening-fits, closing-fits}
 use Rattle.numbers.specs.Bits.{wordBits}
 
 word-room : (es : List Entry) (st : State) (l : ℕ) → length es ≤ levelsMost → openedWord es st l < 2 ^ wordBits
 unfolding openedWord
 word-room es st l h = lt-of-lt-of-le (step-small es l _ _ (length es)) (pow-mono h)
-
-root-small : (b : Bool) (r : ℕ) → r ≤ 1 → cond b 1 r ≤ 1
-root-small true r l = omega arith
-root-small false r l = l
-
--- Root closed is set only where nothing is open now, if it was not set before.
-root-shut : (d r : ℕ) → (r ≡ 1 → ⊥) → cond (eqb d 0) 1 r ≡ 1 → d ≡ 0
-root-shut d r n q = go (eqb d 0) refl q where
-  go : (b : Bool) → eqb d 0 ≡ b → cond b 1 r ≡ 1 → d ≡ 0
-  go true e p = eqb-true d 0 e
-  go false e p = absurd (n p)
-
-root-after : (b : Bool) (r : ℕ) → eqb (cond b 1 r) 1 ≡ cond b true (eqb r 1)
-root-after true r = refl
-root-after false r = refl
 
 -- The two bytes that are zero stay so where the number that they are does.
 spare-kept : (s after : List ℕ) → wordAt 2 after 6 ≡ wordAt 2 s 6 → (getD s 6 0 ≡ 0) × (getD s 7 0 ≡ 0) → (getD after 6 0 ≡ 0) × (getD after 7 0 ≡ 0)
@@ -79,12 +63,15 @@ module _ (es : List Entry) (s : List ℕ) (few : length es ≤ levelsMost) (good
         let f = at 2 0 (omega arith) in
         record {
           long = run-length layout _ s ∙ good .long;
-          shallow = omega (arith, d, room .0);
-          within = omega (arith, d, e, good .within);
-          few = omega (arith, e, room .1);
-          flag = omega (arith, f, good .flag);
-          shut = λ q. absurd (room .2 (sym f ∙ q));
-          spare = spare-kept s _ (at 3 0 (omega arith)) (good .spare);
+          fair =
+              record {
+                shallow = omega (arith, d, room .0);
+                within = omega (arith, d, e, good .fair .within);
+                few = omega (arith, e, room .1);
+                flag = omega (arith, f, good .fair .flag);
+                shut = λ q. absurd (room .2 (sym f ∙ q));
+                spare = spare-kept s _ (at 3 0 (omega arith)) (good .fair .spare);
+              };
         }
 
   -- A closing that is taken: an element is open, so that a depth below 64 is left.
@@ -93,23 +80,23 @@ module _ (es : List Entry) (s : List ℕ) (few : length es ≤ levelsMost) (good
     some-open = closes-room s z
 
     below : pred (depthIn s) < levelsMost
-    below = omega (arith, some-open, good .shallow)
+    below = omega (arith, some-open, good .fair .shallow)
 
     closing-fit : Fits layout (closingRun (pred (depthIn s)) (wordAt 8 s (openPlace (pred (depthIn s)))) (presenceIn s) (rootIn s))
     closing-fit = closing-fits (pred (depthIn s)) s bytes below
 
     -- The bytes after a closing that is taken are the closed state.
     closed-state : stateOf (bytesAfter es s closes) ≡ closed (stateOf s)
-    unfolding stateOf closed bytesAfter closedBytes rootAfter lastStored
+    unfolding stateOf closed bytesAfter closedBytes lastStored
     closed-state =
         let d = pred (depthIn s) in
         run-state _ s (good .long) closing-fit
-        ∙ state-same refl refl (root-after (eqb d 0) (rootIn s)) (with-bit-listed d (presenceIn s) true below) refl
+        ∙ state-same refl refl (root-told d (rootIn s)) (with-bit-listed d (presenceIn s) true below) refl
         (rw (listed-at levelsMost (λ i. wordAt 8 s (openPlace i)) d 0 below) (listed-put levelsMost _ d _ below))
 
     -- They pass the test again.
     closed-good : Good (bytesAfter es s closes)
-    unfolding bytesAfter closedBytes rootAfter countIn widthIn placeFrom lastStored
+    unfolding bytesAfter closedBytes countIn widthIn placeFrom lastStored
     closed-good =
         let k = pred (depthIn s) in
         let at = run-number _ s (good .long) closing-fit in
@@ -118,12 +105,15 @@ module _ (es : List Entry) (s : List ℕ) (few : length es ≤ levelsMost) (good
         let f = at 2 0 (omega arith) in
         record {
           long = run-length layout _ s ∙ good .long;
-          shallow = omega (arith, d, below);
-          within = omega (arith, d, e, good .within);
-          few = omega (arith, e, good .few);
-          flag = rw f (root-small (eqb k 0) (rootIn s) (good .flag));
-          shut = λ q. rw d (root-shut k (rootIn s) (λ x. omega (arith, some-open, good .shut x)) (sym f ∙ q));
-          spare = spare-kept s _ (at 3 0 (omega arith)) (good .spare);
+          fair =
+              record {
+                shallow = omega (arith, d, below);
+                within = omega (arith, d, e, good .fair .within);
+                few = omega (arith, e, good .fair .few);
+                flag = omega (arith, f, root-below 2 k (rootIn s) (omega arith) (omega (arith, good .fair .flag)));
+                shut = λ q. rw d (root-shut k (rootIn s) (λ x. omega (arith, some-open, good .fair .shut x)) (sym f ∙ q));
+                spare = spare-kept s _ (at 3 0 (omega arith)) (good .fair .spare);
+              };
         }
 
   -- So the bytes after a tag that is taken are the state after it,

@@ -11,10 +11,10 @@ use lib.ListN.{length}
 use Rattle.terms.specs.Limits.{levelsMost}
 use Rattle.tag.specs.Tags.{Tag, opens, closes}
 use Rattle.meaning.specs.OnePass.{fault}
-use Rattle.state.specs.State.{stateSize, depthIn, presenceIn, openPlace, lastPlace, stateOf, bad}
+use Rattle.fields.specs.Fields.{badSize, presentWord}
+use Rattle.state.specs.State.{depthIn, presenceIn, openPlace, lastPlace, stateOf, bad}
 use Rattle.state.specs.Stores.{startAfter, opening, closing}
 use Rattle.state.specs.declared.state.Words.{Words}
-use Rattle.numbers.specs.Bits.{bitAt}
 use Rattle.numbers.specs.Bytes.{wordAt}
 
 -- ---- what an opening reads
@@ -29,7 +29,7 @@ parentIn s = cond (eqb (depthIn s) 0) 0 (wordAt 8 s (openPlace (pred (depthIn s)
 
 -- The previous sibling's word is last word d, and 0 where presence bit d is 0.
 abbrev pub siblingIn : List ℕ → ℕ
-siblingIn s = cond (bitAt (presenceIn s) (depthIn s)) (wordAt 8 s (lastPlace (depthIn s))) 0
+siblingIn s = presentWord (presenceIn s) (depthIn s) (wordAt 8 s (lastPlace (depthIn s)))
 
 pub record WordsRead (s : List ℕ) (r : Words) : Type 0 where
   pub parent-is : r .parent ≡ cond (readable s) (parentIn s) 0
@@ -37,9 +37,9 @@ pub record WordsRead (s : List ℕ) (r : Words) : Type 0 where
 
 -- ---- what is answered
 
--- Start is refused where the length is another.
+-- Start is refused where the size is another.
 unfoldable pub startNumber : List ℕ → ℕ
-startNumber s = cond (eqb (length s) stateSize) 0 11
+startNumber s = cond (badSize (length s)) 11 0
 
 -- The number that a tag gets from the state alone, in the order 11, 6, 7, 8; 0 where it is taken.
 unfoldable pub stateNumber : List ℕ → Tag → ℕ

@@ -1,24 +1,21 @@
 -- The state's bytes, as document 01's section "One pass" lays them out: two-byte numbers for depth (at 0), elements (at 2) and root
 -- closed (at 4), two bytes that are zero (at 6), and eight-byte words: presence (at 8), 64 open words (from 16), 64 last words (from
 -- 528). The low byte comes first everywhere.
--- Shuts out: root closed read from one byte only; a depth or a count that is not tested.
+-- Shuts out: root closed read from one byte only; a field read where another stands.
 -- Laws: proofs/GoodLaws.antt, proofs/StateLaws.antt. Assumes nothing.
-use Prim.Native.Nat.{ℕ, zero, suc, _+_, _*_, _≤_}
+use Prim.Native.Nat.{ℕ, _+_, _*_}
 use mathlib.Core.Path.{_≡_}
-use mathlib.Core.Bool.{Bool, not, _&&_, _||_}
+use mathlib.Core.Bool.{Bool, _||_}
 use mathlib.Core.List.{List, [], _∷_}
-use lib.Dec.{eqb, ltb}
+use lib.Dec.{eqb}
 use lib.ListN.{length, getD}
 use Rattle.meaning.specs.OnePass.{State}
+use Rattle.fields.specs.Fields.{stateSize, badSize, badFields, GoodFields}
 use Rattle.state.specs.Layout.{Group}
-use Rattle.terms.specs.Limits.{elementsMost, levelsMost}
+use Rattle.terms.specs.Limits.{levelsMost}
 use Rattle.numbers.specs.Bits.{bitAt}
 use Rattle.numbers.specs.Bytes.{wordAt}
 use Rattle.numbers.specs.Lists.{listed}
-
--- The size of a state.
-abbrev pub stateSize : ℕ
-stateSize = 1040
 
 -- The numbers at 0, 2 and 4, and the presence word at 8.
 abbrev pub depthIn : List ℕ → ℕ
@@ -59,21 +56,11 @@ stateOf s =
       lastWords = listed levelsMost (λ i. wordAt 8 s (lastPlace i));
     }
 
--- A state that is refused by 11: it has not 1,040 bytes; its depth is above 64 or above its elements, or these are above 4,096; root
--- closed is neither 0 nor 1, or is 1 with an element open; or one of the two zero bytes is not zero.
+-- A state that is refused by 11: it has not 1,040 bytes, or the numbers in front of its words are bad.
 unfoldable pub bad : List ℕ → Bool
-bad s =
-    not (eqb (length s) stateSize)
-    || (ltb levelsMost (depthIn s) || ltb (elementsIn s) (depthIn s) || ltb elementsMost (elementsIn s)
-    || ltb 1 (rootIn s) || (eqb (rootIn s) 1 && not (eqb (depthIn s) 0))
-    || not (eqb (getD s 6 0) 0 && eqb (getD s 7 0) 0))
+bad s = badSize (length s) || badFields (depthIn s) (elementsIn s) (rootIn s) (getD s 6 0) (getD s 7 0)
 
--- The same as a proposition, clause by clause: the state passes the test.
+-- The same as a proposition: the state passes the test.
 pub record Good (s : List ℕ) : Type 0 where
   pub long : length s ≡ stateSize
-  pub shallow : depthIn s ≤ levelsMost
-  pub within : depthIn s ≤ elementsIn s
-  pub few : elementsIn s ≤ elementsMost
-  pub flag : rootIn s ≤ 1
-  pub shut : rootIn s ≡ 1 → depthIn s ≡ 0
-  pub spare : (getD s 6 0 ≡ 0) × (getD s 7 0 ≡ 0)
+  pub fair : GoodFields (depthIn s) (elementsIn s) (rootIn s) (getD s 6 0) (getD s 7 0)

@@ -1,22 +1,22 @@
 -- What start, an opening and a closing write into the state's bytes. Document 01, "One pass".
--- Shuts out: the presence bit not cleared on opening; closing that forgets root closed; start that leaves a byte.
+-- Shuts out: start that leaves a byte; an opening or a closing that stores a field elsewhere, or one more.
 -- Laws: proofs/StateLaws.antt, proofs/WrittenLaws.antt. Assumes nothing.
 use Prim.Native.Nat.{ℕ, pred, _+_}
-use mathlib.Core.Bool.{true, false, cond}
+use mathlib.Core.Bool.{true, cond}
 use mathlib.Core.List.{List, [], _∷_}
-use lib.Dec.{eqb, ltb}
 use lib.ListN.{length, replicate}
 use Rattle.entry.specs.declared.entry.Entry.{Entry}
 use Rattle.tag.specs.Tags.{Tag, opens, closes}
 use Rattle.meaning.specs.OnePass.{openedWord}
+use Rattle.fields.specs.Fields.{stateSize, badSize, clearedBelow, rootAfter}
 use Rattle.state.specs.Layout.{Store, stored}
-use Rattle.state.specs.State.{stateSize, depthIn, elementsIn, rootIn, presenceIn, openPlace, layout, stateOf}
+use Rattle.state.specs.State.{depthIn, elementsIn, rootIn, presenceIn, openPlace, layout, stateOf}
 use Rattle.numbers.specs.Bytes.{wordAt}
 use Rattle.numbers.specs.Bits.{withBit}
 
--- Start fills a state of the right length with zeros; any other stays as it was.
+-- Start fills a state of the right size with zeros; any other stays as it was.
 unfoldable pub startAfter : List ℕ → List ℕ
-startAfter s = cond (eqb (length s) stateSize) (replicate stateSize 0) s
+startAfter s = cond (badSize (length s)) s (replicate stateSize 0)
 
 -- A store into each of the state's numbers.
 abbrev pub toDepth : ℕ → Store
@@ -37,20 +37,12 @@ toOpenWord i v = record { group = 5; index = i; value = v }
 abbrev pub toLastWord : ℕ → ℕ → Store
 toLastWord i v = record { group = 6; index = i; value = v }
 
--- Opening at depth d leaves no sibling on the level below: its presence bit goes, where there is such a level.
-unfoldable pub clearedBelow : (d presence : ℕ) → ℕ
-clearedBelow d p = cond (ltb d 63) (withBit (d + 1) false p) p
-
 -- Opening at depth d: the presence bit below goes, the word goes into open word d, and depth and elements rise by 1.
 abbrev pub openingRun : (d elements word presence : ℕ) → List Store
 openingRun d e w p = toPresence (clearedBelow d p) ∷ toOpenWord d w ∷ toDepth (d + 1) ∷ toElements (e + 1) ∷ []
 
 unfoldable pub openedBytes : (d elements word : ℕ) → List ℕ → List ℕ
 openedBytes d e w s = stored layout (openingRun d e w (presenceIn s)) s
-
--- The root is closed where nothing is open now.
-unfoldable pub rootAfter : (d root : ℕ) → ℕ
-rootAfter d r = cond (eqb d 0) 1 r
 
 -- Closing that leaves depth d: presence bit d is set, open word d becomes last word d, the depth is d, and with d 0 the root is closed.
 abbrev pub closingRun : (d word presence root : ℕ) → List Store

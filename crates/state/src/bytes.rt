@@ -13,29 +13,18 @@ pub(crate) fn number_at(s: &[u8], at: usize) -> usize
     two_bytes(s[at], s[at + 1])
 }
 
-fn two_at(s: &[u8], at: usize) -> u64
-    requires { ⌜ at + 2 ≤ length (now s) ⌝ }
-    ensures { λ r. ⌜ (r ≡ wordAt 2 (now (s .entry)) at) × (r < 65536) ⌝ }
-{
-    number_at(s, at) as u64
-}
-
-fn four_at(s: &[u8], at: usize) -> u64
-    requires { ⌜ at + 4 ≤ length (now s) ⌝ }
-    ensures { λ r. ⌜ (r ≡ wordAt 4 (now (s .entry)) at) × (r < 4294967296) ⌝ }
-{
-    two_at(s, at) + 65536 * two_at(s, at + 2)
-}
-
 // The word of eight bytes at an offset.
 pub(crate) fn word_at(s: &[u8], at: usize) -> u64
     requires { ⌜ at + 8 ≤ length (now s) ⌝ }
     ensures { λ r. ⌜ r ≡ wordAt 8 (now (s .entry)) at ⌝ }
 {
-    four_at(s, at) + 4294967296 * four_at(s, at + 4)
+    let low = number_at(s, at) as u64 + 65536 * (number_at(s, at + 2) as u64);
+    let high = number_at(s, at + 4) as u64 + 65536 * (number_at(s, at + 6) as u64);
+    low + 4294967296 * high
 }
 
-fn put_two(s: &mut [u8], at: usize, v: u64)
+// Stores a number in two bytes at an offset.
+pub(crate) fn put_number(s: &mut [u8], at: usize, v: u64)
     requires { ⌜ at + 2 ≤ length (now s) ⌝ }
     ensures { λ _. ⌜ now (s .exit) ≡ numberPut 2 at v (now (s .entry)) ⌝ }
 {
@@ -43,27 +32,13 @@ fn put_two(s: &mut [u8], at: usize, v: u64)
     s[at + 1] = (v / 256 % 256) as u8;
 }
 
-fn put_four(s: &mut [u8], at: usize, v: u64)
-    requires { ⌜ at + 4 ≤ length (now s) ⌝ }
-    ensures { λ _. ⌜ now (s .exit) ≡ numberPut 4 at v (now (s .entry)) ⌝ }
-{
-    put_two(s, at, v);
-    put_two(s, at + 2, v / 65536);
-}
-
 // Stores a word in eight bytes at an offset.
 pub(crate) fn put_word(s: &mut [u8], at: usize, v: u64)
     requires { ⌜ at + 8 ≤ length (now s) ⌝ }
     ensures { λ _. ⌜ now (s .exit) ≡ numberPut 8 at v (now (s .entry)) ⌝ }
 {
-    put_four(s, at, v);
-    put_four(s, at + 4, v / 4294967296);
-}
-
-// Stores a number in two bytes at an offset.
-pub(crate) fn put_number(s: &mut [u8], at: usize, v: usize)
-    requires { ⌜ at + 2 ≤ length (now s) ⌝ }
-    ensures { λ _. ⌜ now (s .exit) ≡ numberPut 2 at v (now (s .entry)) ⌝ }
-{
-    put_two(s, at, v as u64);
+    put_number(s, at, v);
+    put_number(s, at + 2, v / 65536);
+    put_number(s, at + 4, v / 4294967296);
+    put_number(s, at + 6, v / 4294967296 / 65536);
 }

@@ -1,6 +1,5 @@
 // The one-pass state's 1,040 bytes. state.rt has what start, an opening and a closing answer and write
-// there; the other modules read and store the fields, numbers and bits that it names.
+// there, places.rt where its fields stand, bytes.rt numbers in bytes.
 mod bytes;
-mod fields;
+mod places;
 pub mod state;
-mod word;

@@ -3,16 +3,16 @@
 ghost use mathlib.Core.Path.{_≡_};
 ghost use Rattle.state.specs.Promises.{WordsRead, StateStarted, StateOpened, StateClosed};
 use crate::bytes::number_at;
-use crate::fields::DEPTH;
-use crate::fields::ELEMENTS;
-use crate::fields::ROOT;
-use crate::fields::STATE_BYTES;
-use crate::fields::bad_state;
-use crate::fields::clear;
-use crate::fields::parent_word;
-use crate::fields::sibling_word;
-use crate::fields::store_closing;
-use crate::fields::store_opening;
+use crate::places::DEPTH;
+use crate::places::ELEMENTS;
+use crate::places::ROOT;
+use crate::places::bad_state;
+use crate::places::parent_word;
+use crate::places::sibling_word;
+use crate::places::store_closing;
+use crate::places::store_opening;
+use fields::bad::bad_size;
+use fields::zeros::clear;
 use tag::tag::close_fault;
 use tag::tag::open_fault;
 use terms::limits::LEVELS_MOST;
@@ -56,7 +56,7 @@ pub fn words_of(state: &[u8]) -> Words
 pub fn start_state(state: &mut [u8]) -> u32
     ensures { λ r. ⌜ StateStarted (now (state .entry)) r (now (state .exit)) ⌝ }
 {
-    if state.len() != STATE_BYTES {
+    if bad_size(state.len()) {
         return 11;
     }
     clear(state);
@@ -74,11 +74,10 @@ pub fn open_state(state: &mut [u8], label: usize, w: u64) -> u32
     let elements = number_at(state, ELEMENTS);
     let root = number_at(state, ROOT);
     let fault = open_fault(d, elements, root == 1, label);
-    if fault != 0 {
-        return fault;
+    if fault == 0 {
+        store_opening(state, d, elements, w);
     }
-    store_opening(state, d, elements, w);
-    0
+    fault
 }
 
 // Closes the innermost open element.
@@ -89,10 +88,9 @@ pub fn close_state(state: &mut [u8]) -> u32
         return 11;
     }
     let d = number_at(state, DEPTH);
-    let fault = close_fault(d);
-    if fault != 0 {
-        return fault;
+    let number = close_fault(d);
+    if number == 0 {
+        store_closing(state, d - 1);
     }
-    store_closing(state, d - 1);
-    0
+    number
 }

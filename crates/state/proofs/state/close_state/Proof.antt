@@ -29,27 +29,29 @@ number-at-requires c κs = omega (arith, tested-long _ _ (c .before .before .bad
 close-fault-requires : tie.Need-close-fault-requires
 close-fault-requires c κs = search needs
 
-same-length-2 : tie.Need-same-length-2
-same-length-2 c = search needs
-
-returns-2 : tie.Need-returns-2
-returns-2 c = close-refused _ _ (number (c .before)) (c .if2 .taken)
-
 sub-store-closing : tie.Need-sub-store-closing
 sub-store-closing c =
-    let r = closes-fine _ (sym (number (c .before .before)) ∙ c .before .if2 .left) in
+    let r = closes-fine _ (sym (number (c .before .before)) ∙ c .before .if2 .taken) in
     omega (arith, r .1, c .before .before .before .number-at .ensures .0)
 
 store-closing-requires : tie.Need-store-closing-requires
 store-closing-requires c κs =
-    let r = closes-fine _ (sym (number (c .before .before)) ∙ c .before .if2 .left) in
+    let r = closes-fine _ (sym (number (c .before .before)) ∙ c .before .if2 .taken) in
     (r .0, omega (arith, r .1, r .2, c .before .before .before .number-at .ensures .0))
+
+same-length-2 : tie.Need-same-length-2
+same-length-2 c = search needs
+
+returns-2 : tie.Need-returns-2
+returns-2 c =
+    let at1 = c .before .before .before .before in
+    close-taken _ _ _ _ (number (at1 .before)) (at1 .if2 .taken) (at1 .before .before .number-at .ensures .0) (c .before .before .store-closing .ensures)
 
 same-length-3 : tie.Need-same-length-3
 same-length-3 c = search needs
 
 returns-3 : tie.Need-returns-3
-returns-3 c = close-taken _ _ _ _ (number (c .before .before .before .before .before)) (c .before .before .before .before .if2 .left) (c .before .before .before .before .before .before .number-at .ensures .0) (c .before .before .store-closing .ensures)
+returns-3 c = close-refused _ _ (number (c .before)) (c .if2 .left)
 
 pub close-state-spec : {M : Type 1} → statement M
 close-state-spec =
@@ -60,9 +62,9 @@ close-state-spec =
     returns
     number-at-requires
     close-fault-requires
-    same-length-2
-    returns-2
     sub-store-closing
     store-closing-requires
+    same-length-2
+    returns-2
     same-length-3
     returns-3)

@@ -36,22 +36,24 @@ number-at-requires-3 c κs = omega (arith, tested-long _ _ (c .before .before .b
 open-fault-requires : tie.Need-open-fault-requires
 open-fault-requires c κs = search needs
 
+store-opening-requires : tie.Need-store-opening-requires
+store-opening-requires c κs =
+    let r = opens-fine _ _ (sym (number (c .before .before)) ∙ c .before .if2 .taken) in
+    (r .0, omega (arith, r .1, c .before .before .before .before .before .before .before .number-at .ensures .0), omega (arith, r .2, c .before .before .before .before .before .number-at2 .ensures .0))
+
 same-length-2 : tie.Need-same-length-2
 same-length-2 c = search needs
 
 returns-2 : tie.Need-returns-2
-returns-2 c = open-refused _ _ _ _ (number (c .before)) (c .if2 .taken)
-
-store-opening-requires : tie.Need-store-opening-requires
-store-opening-requires c κs =
-    let r = opens-fine _ _ (sym (number (c .before .before)) ∙ c .before .if2 .left) in
-    (r .0, omega (arith, r .1, c .before .before .before .before .before .before .before .number-at .ensures .0), omega (arith, r .2, c .before .before .before .before .before .number-at2 .ensures .0))
+returns-2 c =
+    let at1 = c .before .before .before .before in
+    open-taken _ _ _ _ _ _ _ (number (at1 .before)) (at1 .if2 .taken) (at1 .before .before .before .before .before .before .number-at .ensures .0) (at1 .before .before .before .before .number-at2 .ensures .0) (c .before .before .store-opening .ensures)
 
 same-length-3 : tie.Need-same-length-3
 same-length-3 c = search needs
 
 returns-3 : tie.Need-returns-3
-returns-3 c = open-taken _ _ _ _ _ _ _ (number (c .before .before .before .before .before)) (c .before .before .before .before .if2 .left) (c .before .before .before .before .before .before .before .before .before .before .number-at .ensures .0) (c .before .before .before .before .before .before .before .before .number-at2 .ensures .0) (c .before .before .store-opening .ensures)
+returns-3 c = open-refused _ _ _ _ (number (c .before)) (c .if2 .left)
 
 pub open-state-spec : {M : Type 1} → statement M
 open-state-spec =
@@ -64,8 +66,8 @@ open-state-spec =
     number-at-requires-2
     number-at-requires-3
     open-fault-requires
+    store-opening-requires
     same-length-2
     returns-2
-    store-opening-requires
     same-length-3
     returns-3)

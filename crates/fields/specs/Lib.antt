@@ -1,0 +1,2 @@
+-- What the state's numbers are asked and become, without its bytes.
+pub mod Fields
