@@ -4,13 +4,13 @@ use Prim.Native.Nat.{ℕ, _+_, _*_, _^_, _%_, _≤_, _<_}
 use native.Mathlib.Decide.{ℕ-discrete, decLt}
 use native.Mathlib.Nat.{zero-mul, zero-add, mod-eq-of-lt}
 use native.Mathlib.Omega.{arith}
-use mathlib.Core.Path.{_≡_, refl, sym, ap, _∙_, subst}
+use mathlib.Core.Path.{_≡_, refl, sym, ap, _∙_}
 use mathlib.Core.Bool.{Bool, false, cond, _&&_, _||_}
 use mathlib.Core.List.{List}
 use borrow.Author.Tests.{lt-ltb, le-ltb, eq-eqb, ne-eqb}
 use lib.Bits.{bitOr}
 use lib.Dec.{ltb, eqb}
-use lib.ListN.{length, getD, set, length-set}
+use lib.ListN.{length, getD, set, replicate, length-set, length-replicate, getD-replicate}
 use lib.Pow.{low}
 use lib.Seq.{getD-set-same, getD-set-other}
 use Rattle.marking.specs.Pass.{Stored, Passed, Room, bitsOf}
@@ -46,35 +46,15 @@ module _ (n : ℕ) (before : List ℕ) where
         kept = λ s m. getD-set-other after t s v 0 (λ e. omega arith) ∙ r .kept s m;
       }
 
--- Words stored over words stored.
-pub stored-after : {n : ℕ} {w v : ℕ → ℕ} {before mid after : List ℕ} → Stored n w before mid → Stored n v mid after → Stored n v before after
-stored-after r q = record { long = q .long ∙ r .long; put = q .put; kept = λ s l. q .kept s l ∙ r .kept s l }
-
--- The same number of words, said in another way.
-pub stored-count : {n m : ℕ} {w : ℕ → ℕ} {before after : List ℕ} → n ≡ m → Stored n w before after → Stored m w before after
-stored-count {n} {m} {w} {before} {after} e r = subst (λ (k : ℕ). Stored k w before after) e r
-
--- Words set to 0 one after the other.
-pub clear-start : (before : List ℕ) → Stored 0 (λ s. 0) before before
-clear-start before = record { long = refl; put = λ s l. absurd (omega arith); kept = λ s l. refl }
-
-pub clear-turn : {before after : List ℕ} (k : ℕ) → k < length before → Stored k (λ s. 0) before after
-    → Stored (k + 1) (λ s. 0) before (set after k 0)
-clear-turn {before} {after} k l r =
-    record {
-      long = length-set after k 0 ∙ r .long;
-      put = λ s h.
-          elim (ℕ-discrete s k) [
-            | yes e ↦ rw e (getD-set-same after k 0 0 (omega (arith, r .long)))
-            | no ne ↦ getD-set-other after k s 0 0 ne ∙ r .put s (omega arith)
-          ];
-      kept = λ s h. getD-set-other after k s 0 0 (λ e. omega arith) ∙ r .kept s (omega arith);
-    }
-
 -- Words that are 0 have room for entry 0.
-pub clear-room : {n : ℕ} {before after : List ℕ} → n ≤ elementsMost → n ≤ length before → Stored n (λ s. 0) before after → Room n 0 after
-clear-room few room r =
-    record { few = few; room = omega (arith, r .long); top = omega arith; small = λ s l. rw (r .put s l) (omega arith) }
+pub clear-room : {n : ℕ} {ws : List ℕ} (k : ℕ) → ws ≡ replicate k 0 → n ≤ k → n ≤ elementsMost → Room n 0 ws
+clear-room k e l few =
+    record {
+      few = few;
+      room = omega (arith, ap length e, length-replicate {A = ℕ} k 0);
+      top = omega arith;
+      small = λ s h. rw (e, getD-replicate {A = ℕ} k s 0 0 (omega arith)) (omega arith);
+    }
 
 -- ---- a pass for entry i
 
