@@ -156,7 +156,6 @@ module _ (levels labels : List ℕ) (entries : List Entry) where
       record {
         long = p .stored .long ∙ r .long;
         put = λ s h. p .stored .put s h ∙ rw (add-one i, row-mark rule i l ws (r .put) s h, r .put s h);
-        kept = λ s h. p .stored .kept s h ∙ r .kept s h;
       }
 
   -- Before any entry the words are 0, and before entry i they have bits below i only.
@@ -170,7 +169,7 @@ module _ (levels labels : List ℕ) (entries : List Entry) where
   words-room columns {i} room l r =
       record {
         few = room .few;
-        room = omega (arith, room .room, r .long);
+        all = r .long ∙ room .all;
         top = l;
         small = λ s h. rw (r .put s (omega (arith, columns .long))) (word-lt i _);
       }

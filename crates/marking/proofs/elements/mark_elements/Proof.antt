@@ -34,7 +34,7 @@ mark-entries-requires c κs =
     let k = q .1 .0 .1 in
     let n = length-take-le (p .n) (p .labels .now) (q .1 .1 .0) in
     let m = length-take-le (p .n) (p .marks .now) (q .1 .1 .3) in
-    (q .0, (clear-room (length (take (p .n) (p .marks .now))) (c .before .before .before .before .before .before .clear .ensures) (omega (arith, n, m)) (omega (arith, k .long, k .legal .few)), q .1 .0))
+    (q .0, (clear-room (length (take (p .n) (p .marks .now))) (c .before .before .before .before .before .before .clear .ensures) (m ∙ sym n) (omega (arith, k .long, k .legal .few)), q .1 .0))
 
 sub-count-with-bit : tie.Need-sub-count-with-bit
 sub-count-with-bit c =
