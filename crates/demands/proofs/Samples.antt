@@ -22,7 +22,7 @@ use Rattle.tag.specs.Record.{reportLength, tagAt, recordFault}
 use Rattle.reports.specs.Report.{reportFault, reportStops, reportAnswerAt, reportAnswer}
 use Rattle.reports.specs.Elements.{labelsOf, levelsOf}
 use Rattle.numbers.specs.Bytes.{twoBytes}
-use Rattle.numbers.specs.Bits.{word}
+use Rattle.numbers.specs.Bits.{word, haveBit}
 use Rattle.grammar.specs.Rules.{IsRule}
 use Rattle.grammar.specs.Reports.{Tree, node, empty, tagsT, tagsF, tagBytes, bytesOf, IsReport}
 use Rattle.grammar.proofs.ReportBytes.{report-only}
@@ -30,7 +30,7 @@ use Rattle.meaning.specs.Cases.{twelveCases}
 use Rattle.meaning.specs.Tree.{direction}
 use Rattle.meaning.specs.Rose.{labelsT, labelsF, levelsT, levelsF}
 use Rattle.meaning.specs.Links.{lastUpTo, ifLevel, parentAt, parent, previous, link}
-use Rattle.meaning.specs.Marks.{anyBelow, someOf, everyOf, untilIn, untilOf, meansHere, means, below, mark, wordOf, words, verdict, selected}
+use Rattle.meaning.specs.Marks.{anyBelow, someOf, everyOf, untilIn, untilOf, meansHere, means, below, mark, wordOf, words, verdict}
 use Rattle.marking.specs.Evaluation.{shortOfRoom, meantWords, outcome}
 use Rattle.text.specs.Decimal.{digits, decimal}
 use Rattle.text.specs.Text.{ascii, field, phrase, headerLine, elementLine, closingLine, elementLines, acceptedLines, acceptedText}
@@ -118,7 +118,7 @@ unfolding ruleEnd splitOf ruleIn reportIn acceptedPrintout printoutAt shortOfRoo
     entryAt entryOf entriesOf listed
     reportAnswer reportAnswerAt reportStops reportFault recordFault tagFault endOf reportLength tagAt depthFrom labels levelsFrom labelsOf levelsOf
     lastUpTo ifLevel parentAt parent previous link direction
-    anyBelow someOf everyOf untilIn untilOf meansHere means below mark word wordOf words verdict selected
+    anyBelow someOf everyOf untilIn untilOf meansHere means below mark word wordOf words verdict haveBit
     digits decimal ascii field phrase headerLine elementLine closingLine elementLines acceptedLines acceptedText flatten
 sample-printed = refl
 

@@ -6,7 +6,7 @@ use native.Mathlib.Omega.{arith}
 use borrow.Author.Tests.{lt-ltb, le-ltb, ltb-true, ltb-false}
 use mathlib.Core.Path.{_≡_, refl, sym, ap, subst, _∙_}
 use mathlib.Core.Bool.{Bool, true, false, cond}
-use mathlib.Core.List.{List, [], _∷_}
+use mathlib.Core.List.{List, []}
 use lib.Dec.{ltb}
 use lib.ListN.{length, take}
 use lib.Seq.{length-take-le}
@@ -37,21 +37,13 @@ use Rattle.reports.specs.Elements.{labelsOf, levelsOf}
 use Rattle.numbers.specs.Lists.{over}
 use Rattle.rules.proofs.EntryLaws.{rule-small, entries-taken-all}
 use Rattle.numbers.proofs.Lists.{over-kept}
-use Rattle.numbers.specs.Bits.{bitAt}
-use Rattle.numbers.proofs.BitLaws.{bit-small}
+use Rattle.numbers.proofs.BitLaws.{haveBit-few}
 
--- ---- the selected count is no more than there are words
-
-selected-few : (m : ℕ) (ws : List ℕ) → selected m ws ≤ length ws
-unfolding selected
-selected-few m [] = omega arith
-selected-few m (w ∷ ws) = omega (arith, bit-small (bitAt w (pred m)), selected-few m ws)
-
--- So the count fits where the elements' does.
+-- The selected count is no more than there are words, so it fits where the elements' does.
 pub marked-few : {es : List Entry} {ds labels marks after : List ℕ} {r : ℕ} (n : ℕ) (levels : List ℕ) → ds ≡ take n levels → n ≤ length levels
     → Marked es ds labels marks r after → r ≤ n
 marked-few {es} {ds} {labels} n levels e h m =
-    omega (arith, m .selected-is, selected-few (length es) (words es ds labels), words-length es ds labels, ap length e, length-take-le n levels h)
+    omega (arith, m .selected-is, haveBit-few (pred (length es)) (words es ds labels), words-length es ds labels, ap length e, length-take-le n levels h)
 
 -- ---- once the rule has been read
 

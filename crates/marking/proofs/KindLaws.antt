@@ -2,13 +2,14 @@
 -- Assumes nothing.
 use Prim.Native.Nat.{ℕ, pred, _+_, _*_, _-_, _≤_, _<_}
 use native.Mathlib.Decide.{decLt}
+use native.Mathlib.Nat.{mod-eq-of-lt}
 use native.Mathlib.Numerals.{add-one}
 use native.Mathlib.Omega.{arith}
 use mathlib.Core.Path.{_≡_, sym, ap, subst, _∙_}
 use mathlib.Core.Bool.{Bool, true, false}
-use mathlib.Core.List.{List}
-use lib.ListN.{length, getD, take}
-use lib.Seq.{ext-getD, take-at, take-suc}
+use mathlib.Core.List.{List, _++_}
+use lib.ListN.{length, getD, drop}
+use lib.Seq.{ext-getD}
 use Rattle.entry.specs.declared.entry.Entry.{Entry}
 use Rattle.terms.proofs.Rows.{numbers-are}
 use Rattle.grammar.specs.Rules.{noEntry, RuleEntries}
@@ -27,7 +28,7 @@ use Rattle.meaning.specs.Marks.{meansHere, means, mark, wordOf, words, selected
 use Rattle.meaning.proofs.Tests.{bool-told}
 use Rattle.meaning.proofs.Reflect.{means-told}
 use Rattle.meaning.proofs.OneStep.{mark-rule, plain}
-use Rattle.meaning.proofs.Words.{words-length, words-at, selected-more}
+use Rattle.meaning.proofs.Words.{words-length, words-at}
 use Rattle.layout.specs.Links.{leads, Linked}
 use Rattle.marking.specs.Pass.{Stored, Passed, Room, Columns, bitsOf, Marked}
 use Rattle.marking.specs.Steps.{alongMark, aheadMark, Nearest}
@@ -38,10 +39,9 @@ use Rattle.layout.proofs.LinkLaws.{ups-all, lefts-all, parent-next}
 use Rattle.marking.proofs.PassLaws.{stored-start, stored-same, passed-start}
 use Rattle.grammar.proofs.Table.{table-length, table-at}
 use Rattle.terms.specs.Limits.{entriesMost}
-use Rattle.numbers.specs.Lists.{over}
-use Rattle.numbers.proofs.Lists.{over-is, over-length, over-at, over-past}
-use Rattle.numbers.specs.Bits.{bit, bitAt, word, wordBits}
-use Rattle.numbers.proofs.BitLaws.{pred-sub, bit-small, word-bit, word-lt}
+use Rattle.numbers.proofs.Lists.{over-is}
+use Rattle.numbers.specs.Bits.{word, wordBits, inWord}
+use Rattle.numbers.proofs.BitLaws.{pred-sub, word-bit, word-lt}
 
 -- ---- the table of passes
 
@@ -156,7 +156,6 @@ module _ (levels labels : List ℕ) (entries : List Entry) where
       record {
         long = p .stored .long ∙ r .long;
         put = λ s h. p .stored .put s h ∙ rw (add-one i, row-mark rule i l ws (r .put) s h, r .put s h);
-        kept = λ s h. p .stored .kept s h ∙ r .kept s h;
       }
 
   -- Before any entry the words are 0, and before entry i they have bits below i only.
@@ -170,42 +169,29 @@ module _ (levels labels : List ℕ) (entries : List Entry) where
   words-room columns {i} room l r =
       record {
         few = room .few;
-        room = omega (arith, room .room, r .long);
+        all = r .long ∙ room .all;
         top = l;
         small = λ s h. rw (r .put s (omega (arith, columns .long))) (word-lt i _);
       }
 
-  -- The words as the list that is promised.
-  words-over : {before after : List ℕ} → length levels ≤ length before
-      → Stored (length levels) (wordOf entries levels labels) before after → after ≡ over (words entries levels labels) before
-  words-over {before} {after} room r =
-      let n = words-length entries levels labels in
-      ext-getD 0 after _ (r .long ∙ sym (over-length (words entries levels labels) before)) (λ s h.
-      elim (decLt s (length levels)) [
-        | yes l ↦
-            r .put s l ∙ sym (words-at entries levels labels s l) ∙ sym (over-at (words entries levels labels) before (omega arith) s (omega arith))
-        | no l ↦ r .kept s (omega arith) ∙ sym (over-past (words entries levels labels) before (omega arith) s (omega arith))
-      ])
+  -- Stored in as many words as there are elements, they are the list that is promised.
+  words-all : {before after : List ℕ} → length before ≡ length levels → Stored (length levels) (wordOf entries levels labels) before after
+      → after ≡ words entries levels labels
+  words-all {before} {after} e r =
+      ext-getD 0 after _ (r .long ∙ e ∙ sym (words-length entries levels labels)) (λ s h.
+      let l : s < length levels = omega (arith, r .long) in r .put s l ∙ sym (words-at entries levels labels s l))
 
-  -- The words and their count.
-  marked-of : {before after : List ℕ} (m r : ℕ) → length levels ≤ length before → length entries ≡ m
-      → Stored (length levels) (wordOf entries levels labels) before after → r ≡ selected m (take (length levels) after)
-      → Marked entries levels labels before r after
-  marked-of {before} {after} m r room e w c =
-      let n = words-length entries levels labels in
-      let o = words-over room w in
+  -- The words and their count, where they are the first of a lent buffer.
+  pub marked-first : {lent before after : List ℕ} (n r : ℕ) → n ≡ length levels → n ≤ length lent → length before ≡ n
+      → Stored (length levels) (wordOf entries levels labels) before after → r ≡ selected (length entries) after
+      → Marked entries levels labels lent r (after ++ drop n lent)
+  marked-first {lent} n r e room long w c =
+      let o = words-all (long ∙ e) w in
+      let m : n ≡ length (words entries levels labels) = e ∙ sym (words-length entries levels labels) in
       record {
-        marks-are = o;
-        selected-is =
-            c ∙ rw (← e, o, over-is (words entries levels labels) before (omega arith))
-            (ap (selected (length entries)) (take-at (words entries levels labels) _ (length levels) n));
+        marks-are = rw (o, m) (sym (over-is (words entries levels labels) lent (omega arith)));
+        selected-is = c ∙ ap (selected (length entries)) o;
       }
-
-  -- The same with the number of elements said in another way.
-  pub marked-first : {before after : List ℕ} (m r n : ℕ) → n ≡ length levels → n ≤ length before → length entries ≡ m
-      → Stored (length levels) (wordOf entries levels labels) before after → r ≡ selected m (take n after)
-      → Marked entries levels labels before r after
-  marked-first {before} {after} m r n e room l w c = marked-of m r (omega arith) l w (c ∙ ap (λ (k : ℕ). selected m (take k after)) e)
 
 -- ---- the entries of a table
 
@@ -213,6 +199,10 @@ module _ (n : ℕ) (table : List ℕ) (rule : RuleEntries (entriesIn n table)) w
   -- A rule in a table has 1 to 64 entries.
   pub table-few : (1 ≤ n) × (n ≤ entriesMost)
   table-few = let e = table-length table n in (omega (arith, rule .nonempty), omega (arith, rule .few))
+
+  -- Its last entry's bit, as the machine works it out.
+  pub table-last : inWord (n - 1) ≡ pred (length (entriesIn n table))
+  table-last = mod-eq-of-lt (omega (arith, table-few)) ∙ pred-sub n ∙ ap pred (sym (table-length table n))
 
   module _ (i : ℕ) (l : i < n) where
     within : i < length (entriesIn n table)
@@ -239,12 +229,3 @@ module _ (n : ℕ) (table : List ℕ) (rule : RuleEntries (entriesIn n table)) w
   table-end levels labels i e r =
       stored-same (length levels) _ (λ s l. ap (λ (k : ℕ). wordUpTo levels labels (entriesIn n table) k s)
       (e ∙ sym (table-length table n))) r
-
--- ---- counting
-
--- One word more: its bit is counted, so no more words than were passed.
-pub count-turn : (m s count : ℕ) (ws : List ℕ) → s < length ws → count ≡ selected m (take s ws) → count ≤ s
-    → (count + bit (bitAt (getD ws s 0) (m - 1)) ≡ selected m (take (s + 1) ws)) × (count + bit (bitAt (getD ws s 0) (m - 1)) ≤ s + 1)
-count-turn m s count ws l e h =
-    let p : m - 1 ≡ pred m = pred-sub m in
-    (rw (add-one s, take-suc ws s 0 l, selected-more, e, p), omega (arith, bit-small (bitAt (getD ws s 0) (m - 1))))

@@ -4,18 +4,23 @@ use Prim.Native.Nat.{ℕ, _+_, _*_, _^_, _%_, _≤_, _<_}
 use native.Mathlib.Decide.{ℕ-discrete, decLt}
 use native.Mathlib.Nat.{zero-mul, zero-add, mod-eq-of-lt}
 use native.Mathlib.Omega.{arith}
-use mathlib.Core.Path.{_≡_, refl, sym, ap, _∙_, subst}
+use mathlib.Core.Path.{_≡_, refl, sym, ap, _∙_}
 use mathlib.Core.Bool.{Bool, false, cond, _&&_, _||_}
 use mathlib.Core.List.{List}
 use borrow.Author.Tests.{lt-ltb, le-ltb, eq-eqb, ne-eqb}
 use lib.Bits.{bitOr}
 use lib.Dec.{ltb, eqb}
-use lib.ListN.{length, getD, set, length-set}
+use lib.ListN.{length, getD, set, replicate, length-set, length-replicate, getD-replicate}
 use lib.Pow.{low}
 use lib.Seq.{getD-set-same, getD-set-other}
 use Rattle.marking.specs.Pass.{Stored, Passed, Room, bitsOf}
 use Rattle.terms.specs.Limits.{elementsMost}
 use Rattle.numbers.specs.Bits.{bit, bitAt, inWord}
+use Rattle.numbers.specs.Lists.{listed}
+use Rattle.numbers.proofs.Lists.{listed-length, listed-at}
+use Rattle.steps.specs.Steps.{gateMark}
+use Rattle.steps.specs.declared.gate.Gate.{Gate}
+use Rattle.buffer.specs.Gates.{gatedWord}
 use Rattle.numbers.proofs.BitLaws.{bit-top, bit-under}
 use Rattle.numbers.proofs.Masks.{joined-bit}
 
@@ -26,14 +31,14 @@ at-put w t v s = cond (eqb s t) v (w s)
 module _ (n : ℕ) (before : List ℕ) where
   -- Before any store each word is what it was.
   pub stored-start : Stored n (λ s. getD before s 0) before before
-  stored-start = record { long = refl; put = λ s l. refl; kept = λ s l. refl }
+  stored-start = record { long = refl; put = λ s l. refl }
 
   -- Equal words are stored alike.
   pub stored-same : {w v : ℕ → ℕ} {after : List ℕ} → ((s : ℕ) → s < n → w s ≡ v s) → Stored n w before after → Stored n v before after
-  stored-same e r = record { long = r .long; put = λ s l. r .put s l ∙ e s l; kept = r .kept }
+  stored-same e r = record { long = r .long; put = λ s l. r .put s l ∙ e s l }
 
   -- One store among the first n words.
-  stored-set : {w : ℕ → ℕ} {after : List ℕ} (t v : ℕ) → n ≤ length before → t < n → Stored n w before after
+  stored-set : {w : ℕ → ℕ} {after : List ℕ} (t v : ℕ) → length before ≡ n → t < n → Stored n w before after
       → Stored n (at-put w t v) before (set after t v)
   stored-set {w} {after} t v room l r =
       record {
@@ -43,38 +48,17 @@ module _ (n : ℕ) (before : List ℕ) where
               | yes e ↦ rw (e, eq-eqb t t refl) (getD-set-same after t v 0 (omega (arith, r .long)))
               | no ne ↦ rw (ne-eqb s t ne) (getD-set-other after t s v 0 ne ∙ r .put s m)
             ];
-        kept = λ s m. getD-set-other after t s v 0 (λ e. omega arith) ∙ r .kept s m;
       }
 
--- Words stored over words stored.
-pub stored-after : {n : ℕ} {w v : ℕ → ℕ} {before mid after : List ℕ} → Stored n w before mid → Stored n v mid after → Stored n v before after
-stored-after r q = record { long = q .long ∙ r .long; put = q .put; kept = λ s l. q .kept s l ∙ r .kept s l }
-
--- The same number of words, said in another way.
-pub stored-count : {n m : ℕ} {w : ℕ → ℕ} {before after : List ℕ} → n ≡ m → Stored n w before after → Stored m w before after
-stored-count {n} {m} {w} {before} {after} e r = subst (λ (k : ℕ). Stored k w before after) e r
-
--- Words set to 0 one after the other.
-pub clear-start : (before : List ℕ) → Stored 0 (λ s. 0) before before
-clear-start before = record { long = refl; put = λ s l. absurd (omega arith); kept = λ s l. refl }
-
-pub clear-turn : {before after : List ℕ} (k : ℕ) → k < length before → Stored k (λ s. 0) before after
-    → Stored (k + 1) (λ s. 0) before (set after k 0)
-clear-turn {before} {after} k l r =
-    record {
-      long = length-set after k 0 ∙ r .long;
-      put = λ s h.
-          elim (ℕ-discrete s k) [
-            | yes e ↦ rw e (getD-set-same after k 0 0 (omega (arith, r .long)))
-            | no ne ↦ getD-set-other after k s 0 0 ne ∙ r .put s (omega arith)
-          ];
-      kept = λ s h. getD-set-other after k s 0 0 (λ e. omega arith) ∙ r .kept s (omega arith);
-    }
-
 -- Words that are 0 have room for entry 0.
-pub clear-room : {n : ℕ} {before after : List ℕ} → n ≤ elementsMost → n ≤ length before → Stored n (λ s. 0) before after → Room n 0 after
-clear-room few room r =
-    record { few = few; room = omega (arith, r .long); top = omega arith; small = λ s l. rw (r .put s l) (omega arith) }
+pub clear-room : {n : ℕ} {ws : List ℕ} (k : ℕ) → ws ≡ replicate k 0 → k ≡ n → n ≤ elementsMost → Room n 0 ws
+clear-room k e l few =
+    record {
+      few = few;
+      all = ap length e ∙ length-replicate k 0 ∙ l;
+      top = omega arith;
+      small = λ s h. rw (e, getD-replicate {A = ℕ} k s 0 0 (omega arith)) (omega arith);
+    }
 
 -- ---- a pass for entry i
 
@@ -110,7 +94,7 @@ module _ {n i : ℕ} {before : List ℕ} (room : Room n i before) where
     -- One element's mark joined by another.
     pub passed-join : (on : Bool) → Passed n i (at-put m s (m s || on)) before (set after s (bitOr (getD after s 0) (bit on * 2 ^ i)))
     passed-join on =
-        record { stored = stored-same n before (λ k h. put-word k) (stored-set n before s _ (room .room) l (r .stored)) }
+        record { stored = stored-same n before (λ k h. put-word k) (stored-set n before s _ (room .all) l (r .stored)) }
       where
         put-word : (k : ℕ) → at-put (λ k. bit (m k) * 2 ^ i + getD before k 0) s (bitOr (getD after s 0) (bit on * 2 ^ i)) k
             ≡ bit (at-put m s (m s || on) k) * 2 ^ i + getD before k 0
@@ -123,11 +107,29 @@ module _ {n i : ℕ} {before : List ℕ} (room : Room n i before) where
     -- Another mark at one element.
     pub passed-set : (on : Bool) → Passed n i (at-put m s on) before (set after s (bit on * 2 ^ i + getD after s 0 % 2 ^ i))
     passed-set on =
-        record { stored = stored-same n before (λ k h. put-word k) (stored-set n before s _ (room .room) l (r .stored)) }
+        record { stored = stored-same n before (λ k h. put-word k) (stored-set n before s _ (room .all) l (r .stored)) }
       where
         put-word : (k : ℕ) → at-put (λ k. bit (m k) * 2 ^ i + getD before k 0) s (bit on * 2 ^ i + getD after s 0 % 2 ^ i) k
             ≡ bit (at-put m s on k) * 2 ^ i + getD before k 0
         put-word k = elim (ℕ-discrete k s) [ yes e ↦ rw (e, eq-eqb s s refl, passed-rest) | no ne ↦ rw (ne-eqb k s ne) ]
+
+-- ---- all elements alike
+
+-- No bit above a word: the word.
+none-set : (i w : ℕ) → bit false * 2 ^ i + w ≡ w
+none-set i w = rw (zero-mul, zero-add)
+
+-- What a gate puts into each word is its mark.
+pub passed-gate : {n i : ℕ} {before after : List ℕ} (gate : Gate) → Room n i before → after ≡ listed (length before) (gatedWord gate i before)
+    → Passed n i (λ s. gateMark gate (getD before s 0)) before after
+passed-gate {n} {i} {before} {after} gate room e =
+    record { stored = record { long = ap length e ∙ listed-length (length before) _; put = put } }
+  where
+    put : (s : ℕ) → s < n → getD after s 0 ≡ bit (gateMark gate (getD before s 0)) * 2 ^ i + getD before s 0
+    put s l =
+        rw (e, listed-at (length before) (gatedWord gate i before) s 0 (omega (arith, room .all)), own-in room)
+        (ap (λ (w : ℕ). bitOr w (bit (gateMark gate (getD before s 0)) * 2 ^ i)) (sym (none-set i (getD before s 0)))
+        ∙ joined-bit i (getD before s 0) false (gateMark gate (getD before s 0)) (room .small s l))
 
 -- ---- from the first element on
 
@@ -139,10 +141,6 @@ module _ {n i : ℕ} {before : List ℕ} (room : Room n i before) (m : ℕ → B
   -- No element yet.
   pub ascent-start : Passed n i (before-only m 0) before before
   ascent-start = passed-same room (λ s l. rw (le-ltb s 0 (omega arith))) (passed-start room)
-
-  -- The element in hand still has the word that it had.
-  pub ascent-word : {after : List ℕ} (k : ℕ) → k < n → Passed n i (before-only m k) before after → getD after k 0 ≡ getD before k 0
-  ascent-word k l r = r .stored .put k l ∙ rw (le-ltb k k (omega arith), zero-mul, zero-add)
 
   -- One element more.
   pub ascent-turn : {after : List ℕ} (k : ℕ) (on : Bool) → k < n → on ≡ m k → Passed n i (before-only m k) before after

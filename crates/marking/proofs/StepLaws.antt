@@ -3,7 +3,7 @@
 use Prim.Native.Nat.{ℕ, suc, _≤_, _<_}
 use native.Mathlib.Nat.{eq-or-lt-of-le}
 use native.Mathlib.Omega.{arith}
-use mathlib.Core.Path.{_≡_, refl, sym, ap, subst}
+use mathlib.Core.Path.{_≡_, refl, sym, subst}
 use mathlib.Core.Bool.{Bool, true, false, cond, _&&_, _||_}
 use mathlib.Core.List.{List}
 use mathlib.Core.Logic.{inl, inr, ⊎-elim}
@@ -17,12 +17,11 @@ use Rattle.meaning.proofs.Tests.{Finds, ahead, behind, bool-told, any-told, unt
 use Rattle.layout.specs.Links.{leads, leadsTo}
 use Rattle.marking.specs.Pass.{Passed, Room, bitsOf}
 use Rattle.marking.specs.Steps.{alongMark, aheadMark}
-use Rattle.steps.specs.Steps.{gateMark, backStep, ownStep, givenStep}
+use Rattle.steps.specs.Steps.{backStep, ownStep, givenStep}
 use Rattle.steps.specs.declared.ahead.AskedAhead.{AskedAhead}
 use Rattle.steps.specs.declared.ahead.AskedAhead.the-variants.{Until, Every}
-use Rattle.steps.specs.declared.gate.Gate.{Gate}
 use Rattle.layout.proofs.LinkLaws.{leads-at, leads-finds}
-use Rattle.marking.proofs.PassLaws.{before-only, ascent-word, passed-bit, passed-under}
+use Rattle.marking.proofs.PassLaws.{before-only, passed-bit, passed-under}
 use Rattle.numbers.specs.Bits.{bitAt}
 
 -- At the element that a number leads to.
@@ -33,13 +32,6 @@ at-leads s number m = go (ltb number s) where
   go false = refl
 
 -- ---- from the first element on
-
--- What the pass of a gate reads at an element gives the element's mark.
-pub gate-turn : {n i : ℕ} {before after : List ℕ} (gate : Gate) (s : ℕ) → Room n i before → s < n
-    → Passed n i (before-only (λ s. gateMark gate (getD before s 0)) s) before after
-    → gateMark gate (getD after s 0) ≡ gateMark gate (getD before s 0)
-gate-turn {n} {i} {before} {after} gate s room l r =
-    ap (gateMark gate) (ascent-word room (λ s. gateMark gate (getD before s 0)) s l r)
 
 -- The mark is the step over the element's own bits and over bit a and the mark where F leads.
 back-own : {R : ℕ → ℕ → Type 0} {F : ℕ → Option ℕ} {n : ℕ} → Finds R F n → (until : Bool) (a b : ℕ → Bool) (s : ℕ) → s < n

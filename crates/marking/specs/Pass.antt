@@ -1,5 +1,5 @@
--- What a pass over the mark words leaves: the words of the first n elements, and past them what stood there.
--- Shuts out: a word past the last element written; another entry's bit changed.
+-- What a pass over the words of n elements leaves: all of them, and each with one bit more.
+-- Shuts out: a word left out; another entry's bit changed.
 -- Laws: proofs/PassLaws.antt. Assumes nothing.
 use Prim.Native.Nat.{ℕ, _+_, _*_, _^_, _≤_, _<_}
 use mathlib.Core.Path.{_≡_}
@@ -14,20 +14,19 @@ use Rattle.terms.specs.Limits.{elementsMost}
 use Rattle.numbers.specs.Lists.{over}
 use Rattle.numbers.specs.Bits.{bit, bitAt, wordBits}
 
--- The first n words after are w, and the others are as before.
+-- There are as many words as before, and the first n are w.
 pub record Stored (n : ℕ) (w : ℕ → ℕ) (before after : List ℕ) : Type 0 where
   pub long : length after ≡ length before
   pub put : (s : ℕ) → s < n → getD after s 0 ≡ w s
-  pub kept : (s : ℕ) → n ≤ s → getD after s 0 ≡ getD before s 0
 
 -- Bit i of the first n words is m, above the bits that stood there.
 pub record Passed (n i : ℕ) (m : ℕ → Bool) (before after : List ℕ) : Type 0 where
   pub stored : Stored n (λ s. bit (m s) * 2 ^ i + getD before s 0) before after
 
--- A pass for entry i over the first n words has room: there are n words, they have bits below i only, and i is a bit of a word.
+-- A pass for entry i over the words of n elements has room: there are n words, they have bits below i only, and i is a bit of a word.
 pub record Room (n i : ℕ) (ws : List ℕ) : Type 0 where
   pub few : n ≤ elementsMost
-  pub room : n ≤ length ws
+  pub all : length ws ≡ n
   pub top : i < wordBits
   pub small : (s : ℕ) → s < n → getD ws s 0 < 2 ^ i
 

@@ -7,29 +7,14 @@ ghost use Rattle.terms.specs.Kinds.{localNumbers};
 ghost use Rattle.terms.specs.declared.kind.Numbers.the-variants.{Entries};
 ghost use Rattle.meaning.specs.Marks.{meansHere};
 ghost use Rattle.marking.specs.Pass.{Passed, Room, bitsOf};
-ghost use Rattle.steps.specs.Steps.{gateMark};
-use steps::gate::Gate;
+use buffer::gates::gate_pass;
 use steps::gate::always_gate;
 use steps::gate::and_gate;
-use steps::gate::gate_mark;
 use steps::gate::not_gate;
 use steps::gate::or_gate;
 use steps::label::label_mark;
 use steps::word::put_bit;
 use terms::kind::Local;
-
-// Entry i at the first n elements, by what a gate makes of their words.
-fn gate_pass(gate: Gate, i: usize, n: usize, marks: &mut [u64])
-    requires { ⌜ Room n i (now marks) ⌝ }
-    ensures { λ _. ⌜ Passed n i (λ s. gateMark gate (getD (now (marks .entry)) s 0)) (now (marks .entry)) (now (marks .exit)) ⌝ }
-{
-    let mut s: usize = 0;
-    while s < n {
-        let w = marks[s];
-        marks[s] = put_bit(w, i, gate_mark(gate, w));
-        s += 1;
-    }
-}
 
 // Entry i at every element, by the elements' labels.
 fn label_pass(label: usize, i: usize, labels: &[u16], marks: &mut [u64])
@@ -56,12 +41,11 @@ pub(crate) fn local_pass(
     requires { ⌜ Room (length (now labels)) i (now marks) ⌝ }
     ensures { λ _. ⌜ Passed (length (now (labels .entry))) i (λ s. meansHere asked a (getD (now (labels .entry)) s 0) (bitsOf (now (marks .entry)) a s) (bitsOf (now (marks .entry)) b s)) (now (marks .entry)) (now (marks .exit)) ⌝ }
 {
-    let n = labels.len();
     match asked {
-        Local::Always => gate_pass(always_gate(), i, n, marks),
+        Local::Always => gate_pass(always_gate(), i, marks),
         Local::HasLabel => label_pass(a, i, labels, marks),
-        Local::Negation => gate_pass(not_gate(a), i, n, marks),
-        Local::Disjunction => gate_pass(or_gate(a, b), i, n, marks),
-        Local::Conjunction => gate_pass(and_gate(a, b), i, n, marks),
+        Local::Negation => gate_pass(not_gate(a), i, marks),
+        Local::Disjunction => gate_pass(or_gate(a, b), i, marks),
+        Local::Conjunction => gate_pass(and_gate(a, b), i, marks),
     }
 }

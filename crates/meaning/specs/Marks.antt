@@ -1,9 +1,9 @@
 -- Marks: the meaning as a test that computes; the word of an element; verdict and selected count. Document 01, "Numbers given back"
 -- (mark buffer) and demand 2.
 -- Laws: proofs/Reflect.antt says that a mark is true exactly where the entry holds; proofs/Words.antt. Assumes nothing.
-use Prim.Native.Nat.{ℕ, zero, suc, pred, _+_}
+use Prim.Native.Nat.{ℕ, zero, suc, pred}
 use mathlib.Core.Bool.{Bool, true, false, cond, not, _&&_, _||_}
-use mathlib.Core.List.{List, [], _∷_}
+use mathlib.Core.List.{List}
 use mathlib.Core.Option.{Option, none, some}
 use lib.Dec.{eqb}
 use lib.ListN.{length, getD}
@@ -17,7 +17,7 @@ use Rattle.terms.specs.declared.kind.Local.the-variants.{Always as always, HasL
 use Rattle.terms.specs.declared.kind.Shape.{Shape}
 use Rattle.terms.specs.declared.kind.Shape.the-variants.{Nothing as nothing, Here as local, SomeAlong as someAlong, UntilAlong as untilAlong, EveryChild as everyChild}
 use Rattle.terms.specs.Kinds.{shapeOf}
-use Rattle.numbers.specs.Bits.{bit, word, bitAt}
+use Rattle.numbers.specs.Bits.{word, bitAt, haveBit}
 use Rattle.numbers.specs.Lists.{listed}
 
 -- There is such an element, and p passes at it.
@@ -95,6 +95,5 @@ module _ (entries : List Entry) (levels labels : List ℕ) where
   verdict s = bitAt (wordOf s) (pred (length entries))
 
 -- How many words of a list have the bit of the last of m entries: the selected count is this of the words.
-unfoldable pub selected : ℕ → List ℕ → ℕ
-selected m [] = 0
-selected m (w ∷ ws) = bit (bitAt w (pred m)) + selected m ws
+abbrev pub selected : ℕ → List ℕ → ℕ
+selected m ws = haveBit (pred m) ws

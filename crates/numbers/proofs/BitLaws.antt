@@ -1,16 +1,20 @@
 -- The bits of words, once over the number of bits: the laws serve more than one machine word for an element (`word-split`).
 -- Assumes nothing.
 use Prim.Native.Nat.{ℕ, zero, suc, pred, _+_, _*_, _/_, _%_, _^_, _<_, _≤_, _-_}
-use native.Mathlib.Nat.{not-suc-le-zero, le-of-suc-le-suc, eq-or-lt-of-le, pow-suc, add-comm, mul-add, mul-assoc, mul-left-comm, add-zero}
+use native.Mathlib.Nat.{not-suc-le-zero, le-of-suc-le-suc, eq-or-lt-of-le, pow-suc, add-comm, add-assoc, min-le-left, mul-add, mul-assoc, mul-left-comm, add-zero}
 use native.Mathlib.Nat.{add-suc, add-left-comm, add-mul-div-right, div-eq-of-lt, div-lt-iff-lt-mul, lt-of-lt-of-le, mod-lt, mul-zero, zero-mul, one-mul}
+use native.Mathlib.Numerals.{add-one}
 use native.Mathlib.Omega.{arith}
 use mathlib.Core.Path.{_≡_, refl, ap, subst, sym, _∙_}
 use mathlib.Core.Bool.{Bool, true, false}
+use mathlib.Core.List.{List, [], _∷_, _++_}
 use mathlib.Core.Logic.{⊎-elim}
 use lib.Dec.{eqb}
+use lib.ListN.{length, getD, take, length-take}
+use lib.Seq.{take-suc}
 use lib.Pow.{pow-pos, pow-mono, pow-add, high, split}
 use lib.Bits.{block-odd}
-use Rattle.numbers.specs.Bits.{bit, bitAt, word}
+use Rattle.numbers.specs.Bits.{bit, bitAt, word, haveBit}
 
 -- ---- bits
 
@@ -101,3 +105,26 @@ word-only (suc m) w f h e =
     let low : (i : ℕ) → i < m → bitAt (w % 2 ^ m) i ≡ f i =
     λ i l. sym (bit-under m i (bitAt w m) (w % 2 ^ m) l) ∙ ap (λ (x : ℕ). bitAt x i) top ∙ e i (omega arith) in
     rw (← word-only m (w % 2 ^ m) f (mod-lt w (pow-pos m)) low, ← e m (omega arith)) (sym top)
+
+-- ---- how many words have a bit
+
+-- One word more counts its own bit more.
+pub haveBit-more : (a w : ℕ) (ws : List ℕ) → haveBit a (ws ++ (w ∷ [])) ≡ haveBit a ws + bit (bitAt w a)
+unfolding haveBit
+haveBit-more a w [] = add-comm _ _
+haveBit-more a w (v ∷ ws) = rw (haveBit-more a w ws) (sym (add-assoc _ _ _))
+
+-- No more than there are words.
+pub haveBit-few : (a : ℕ) (ws : List ℕ) → haveBit a ws ≤ length ws
+unfolding haveBit
+haveBit-few a [] = omega arith
+haveBit-few a (w ∷ ws) = omega (arith, bit-small (bitAt w a), haveBit-few a ws)
+
+-- Of the first s words no more than s.
+pub haveBit-first : (a s : ℕ) (ws : List ℕ) → haveBit a (take s ws) ≤ s
+haveBit-first a s ws = omega (arith, haveBit-few a (take s ws), length-take s ws, min-le-left s (length ws))
+
+-- A count of the first words goes on with the next word's bit.
+pub haveBit-next : {count : ℕ} (a s : ℕ) (ws : List ℕ) → s < length ws → count ≡ haveBit a (take s ws)
+    → count + bit (bitAt (getD ws s 0) a) ≡ haveBit a (take (s + 1) ws)
+haveBit-next a s ws l e = rw (add-one s, take-suc ws s 0 l, haveBit-more, e)

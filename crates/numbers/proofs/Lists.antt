@@ -5,10 +5,10 @@ use native.Mathlib.Omega.{arith}
 use native.Mathlib.Nat.{add-zero, zero-add, eq-or-lt-of-le, le-of-suc-le-suc, not-suc-le-zero}
 use native.Mathlib.Numerals.{add-one}
 use mathlib.Core.Path.{_≡_, refl, sym, ap, _∙_}
-use mathlib.Core.List.{List, [], _∷_, _++_}
+use mathlib.Core.List.{List, [], _∷_, _++_, append-nil}
 use mathlib.Core.Logic.{⊎-elim}
 use lib.ListN.{length, getD, set, drop, length-append, List·getD-append, replicate, length-set, length-replicate, getD-replicate}
-use lib.Seq.{sets, length-sets, sets-eq, getD-append-add, getD-drop, getD-at, ext-getD, getD-set-same, getD-set-other}
+use lib.Seq.{sets, length-sets, sets-eq, drop-length, getD-append-add, getD-drop, getD-at, ext-getD, getD-set-same, getD-set-other}
 use Rattle.numbers.specs.Lists.{listed, putAt, over}
 use native.Mathlib.Decide.{ℕ-discrete}
 use borrow.Author.Tests.{eq-eqb, ne-eqb}
@@ -107,3 +107,21 @@ over-past xs lent r i h =
 -- A lent list into which nothing is put is as it was.
 pub over-kept : (xs lent : List ℕ) → xs ≡ [] → lent ≡ over xs lent
 over-kept xs lent e = rw e (sym (over-none lent))
+
+-- ---- the values of a function put over a lent list, one after the other
+
+module _ (f : ℕ → ℕ) (lent : List ℕ) {ws : List ℕ} where
+  -- The next place holds what it held.
+  pub filled-ahead : (s : ℕ) → s ≤ length lent → ws ≡ over (listed s f) lent → getD ws s 0 ≡ getD lent s 0
+  filled-ahead s l e = let n = listed-length s f in rw e (over-past (listed s f) lent (omega arith) s (omega arith))
+
+  -- One value more.
+  pub filled-next : {v : ℕ} (s : ℕ) → v ≡ f s → ws ≡ over (listed s f) lent → set ws s v ≡ over (listed (s + 1) f) lent
+  unfolding listed
+  filled-next s q e = rw (e, q, add-one s) (over-next (listed s f) lent (f s) s (listed-length s f))
+
+  -- All of them.
+  pub filled-all : (s : ℕ) → s ≡ length lent → ws ≡ over (listed s f) lent → ws ≡ listed (length lent) f
+  filled-all s q e =
+      let n : length (listed s f) ≡ length lent = listed-length s f ∙ q in
+      e ∙ over-is (listed s f) lent (omega arith) ∙ rw (n, drop-length) (append-nil _) ∙ ap (λ (k : ℕ). listed k f) q

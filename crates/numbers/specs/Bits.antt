@@ -2,6 +2,7 @@
 -- Laws: proofs/BitLaws.antt, proofs/WithBit.antt. Assumes nothing.
 use Prim.Native.Nat.{ℕ, zero, suc, _+_, _*_, _^_, _%_, _/_}
 use mathlib.Core.Bool.{Bool, true, false, cond}
+use mathlib.Core.List.{List, [], _∷_}
 use lib.Dec.{eqb}
 
 -- A mark word has so many bits, one for each entry that a rule may have.
@@ -25,6 +26,11 @@ word (suc m) f = bit (f m) * 2 ^ m + word m f
 -- Bit a of a word.
 abbrev pub bitAt : ℕ → ℕ → Bool
 bitAt w a = eqb (w / 2 ^ a % 2) 1
+
+-- How many words of a list have bit a.
+unfoldable pub haveBit : (a : ℕ) → List ℕ → ℕ
+haveBit a [] = 0
+haveBit a (w ∷ ws) = bit (bitAt w a) + haveBit a ws
 
 -- The 64-bit word w with bit i put to `on`; every other bit stays.
 unfoldable pub withBit : ℕ → Bool → ℕ → ℕ

@@ -1,9 +1,10 @@
 // Start, open and close as C calls them; include/polonezar.h declares them.
+ghost use mathlib.Core.Path.{_≡_};
 ghost use mathlib.Core.Bool.{false};
 ghost use Prim.Native.Nat.{pred, _≤_};
 ghost use Rattle.tag.specs.Tags.{opens, closes};
 ghost use Rattle.state.specs.Stores.{opening, closing};
-ghost use Rattle.onepass.specs.Step.{Stepped, Started, Opened, Closed};
+ghost use Rattle.onepass.specs.Step.{reply, Stepped, Started, Opened, Closed};
 use numbers::bits::bit_at;
 use state::state::close_state;
 use state::state::open_state;
@@ -22,17 +23,24 @@ pub struct StepReply {
     pub verdict: u32,
 }
 
+// The answer to a rule that looks ahead, whatever the state is.
+fn refuse_ahead() -> StepReply
+    ensures { λ r. ⌜ r ≡ reply 10 0 0 ⌝ }
+{
+    StepReply {
+        number: 10,
+        place: 0,
+        verdict: 0,
+    }
+}
+
 // Opens with an accepted rule of n entries, which give the word w.
 fn open_step(n: usize, ahead: bool, w: u64, state: &mut [u8], label: usize) -> StepReply
     requires { ⌜ 1 ≤ n ⌝ }
     ensures { λ r. ⌜ Stepped «ahead» (now (state .entry)) (opens label) (bitAt w (pred n)) (opening w (now (state .entry))) r (now (state .exit)) ⌝ }
 {
     if ahead {
-        return StepReply {
-            number: 10,
-            place: 0,
-            verdict: 0,
-        };
+        return refuse_ahead();
     }
     let number = open_state(state, label, w);
     StepReply {
@@ -47,11 +55,7 @@ fn close_step(ahead: bool, state: &mut [u8]) -> StepReply
     ensures { λ r. ⌜ Stepped «ahead» (now (state .entry)) closes false (closing (now (state .entry))) r (now (state .exit)) ⌝ }
 {
     if ahead {
-        return StepReply {
-            number: 10,
-            place: 0,
-            verdict: 0,
-        };
+        return refuse_ahead();
     }
     let number = close_state(state);
     StepReply {

@@ -1,6 +1,7 @@
 // The running tally: how many verdicts were seen, how many of them were true (selected), and how
 // many were false (passed over). Document 01, "Tally".
 ghost use mathlib.Core.Path.{_≡_};
+ghost use Prim.Native.Nat.{_+_};
 ghost use Rattle.tally.specs.Tally.{tallyRefused, Tallied, truthOf};
 
 // Three counts that C lends and this crate alters where they stand.
@@ -17,12 +18,18 @@ pub struct Counted {
     pub tally: Tally,
 }
 
-// Whether the tally is full, or seen is not the sum of the others. The sum is made in 64 bits, where
-// it cannot wrap.
+// The sum of two counts. It is made in 64 bits, where it cannot wrap.
+fn sum_of(a: u32, b: u32) -> u64
+    ensures { λ r. ⌜ r ≡ a + b ⌝ }
+{
+    a as u64 + b as u64
+}
+
+// Whether the tally is full, or seen is not the sum of the others.
 fn is_refused(t: Tally) -> bool
     ensures { λ r. ⌜ r ≡ tallyRefused t ⌝ }
 {
-    (t.seen == 4294967295) | (t.seen as u64 != t.selected as u64 + t.passed_over as u64)
+    (t.seen == 4294967295) | (t.seen as u64 != sum_of(t.selected, t.passed_over))
 }
 
 // One verdict more. Refused (12, and the tally as it was) where the tally is full or out of balance.

@@ -7,6 +7,7 @@ use mathlib.Core.Bool.{Bool, true, false}
 use mathlib.Core.List.{List, [], _∷_, _++_}
 use lib.ListN.{length, length-append}
 use Rattle.text.specs.Decimal.{decimal}
+use Rattle.text.specs.Rendered.{bufferSize}
 use Rattle.text.specs.Text.{space, lineFeed, field, phrase, elementLine}
 use Rattle.text.proofs.DecimalLaws.{decimal-short}
 use Rattle.terms.specs.Limits.{elementsMost}
@@ -57,3 +58,7 @@ element-short element label level verdict e l v =
 pub phrase-short : (first second : List ℕ) (x y : ℕ) → x < 2 ^ 64 → y < 2 ^ 64 → length (phrase first x second y) ≤ length first + length second + 42
 phrase-short first second x y p q =
     omega (arith, phrase-length first second x y, field-short 19 x space (omega arith), field-short 19 y lineFeed (omega arith))
+
+-- The buffer has room for it at its front, whatever the numbers are.
+pub phrase-fits : (first second : List ℕ) (x y : ℕ) → length first + length second ≤ 100 → x < 2 ^ 64 → y < 2 ^ 64 → 0 + length (phrase first x second y) ≤ bufferSize
+phrase-fits first second x y h p q = omega (arith, phrase-short first second x y p q)

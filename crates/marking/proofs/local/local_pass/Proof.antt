@@ -3,7 +3,7 @@ use mathlib.Core.Path.{refl, _∙_}
 use Rattle.terms.specs.Kinds.{localNumbers}
 use Rattle.meaning.specs.Marks.{meansHere}
 use Rattle.steps.proofs.Gates.{gate-always, gate-not, gate-or, gate-and}
-use Rattle.marking.proofs.PassLaws.{passed-same, earlier-in}
+use Rattle.marking.proofs.PassLaws.{passed-same, passed-gate, earlier-in}
 use borrow.Author.Needs.{needs}
 use Rattle.marking.proofs.local.local_pass.Statement.{statement}
 use Rattle.marking.proofs.local.local_pass.Tie as tie
@@ -55,7 +55,7 @@ same-length c = search needs
 
 returns : tie.Need-returns
 unfolding meansHere localNumbers
-returns c = passed-same (c .before .before .before .before .before .before .before .before .before .pre .1) (λ s h. rw (c .before .before .before .before .before .enum-told .given .1) (rw (c .before .before .before .before .always-gate .ensures) (gate-always _))) (c .before .before .gate-pass .ensures)
+returns c = passed-same (c .before .before .before .before .before .before .before .before .before .pre .1) (λ s h. rw (c .before .before .before .before .before .enum-told .given .1) (rw (c .before .before .before .before .always-gate .ensures) (gate-always _))) (passed-gate _ (c .before .before .before .before .before .before .before .before .before .pre .1) (c .before .before .gate-pass .ensures))
 
 same-length-2 : tie.Need-same-length-2
 same-length-2 c = search needs
@@ -69,21 +69,21 @@ same-length-3 c = search needs
 
 returns-3 : tie.Need-returns-3
 unfolding meansHere localNumbers
-returns-3 c = let p = c .before .before .before .before .before .before .before .before .before .pre in let h = p .0 (rw (c .before .before .before .before .before .enum-told3 .given .1) refl) in passed-same (p .1) (λ s l. rw (c .before .before .before .before .before .enum-told3 .given .1, c .before .before .before .before .not-gate .ensures) (gate-not _ _ ∙ rw (earlier-in (p .1) (h .0)))) (c .before .before .gate-pass2 .ensures)
+returns-3 c = let p = c .before .before .before .before .before .before .before .before .before .pre in let h = p .0 (rw (c .before .before .before .before .before .enum-told3 .given .1) refl) in passed-same (p .1) (λ s l. rw (c .before .before .before .before .before .enum-told3 .given .1, c .before .before .before .before .not-gate .ensures) (gate-not _ _ ∙ rw (earlier-in (p .1) (h .0)))) (passed-gate _ (p .1) (c .before .before .gate-pass2 .ensures))
 
 same-length-4 : tie.Need-same-length-4
 same-length-4 c = search needs
 
 returns-4 : tie.Need-returns-4
 unfolding meansHere localNumbers
-returns-4 c = let p = c .before .before .before .before .before .before .before .before .before .pre in let h = p .0 (rw (c .before .before .before .before .before .enum-told4 .given .1) refl) in passed-same (p .1) (λ s l. rw (c .before .before .before .before .before .enum-told4 .given .1, c .before .before .before .before .or-gate .ensures) (gate-or _ _ _ ∙ rw (earlier-in (p .1) (h .0), earlier-in (p .1) (h .1)))) (c .before .before .gate-pass3 .ensures)
+returns-4 c = let p = c .before .before .before .before .before .before .before .before .before .pre in let h = p .0 (rw (c .before .before .before .before .before .enum-told4 .given .1) refl) in passed-same (p .1) (λ s l. rw (c .before .before .before .before .before .enum-told4 .given .1, c .before .before .before .before .or-gate .ensures) (gate-or _ _ _ ∙ rw (earlier-in (p .1) (h .0), earlier-in (p .1) (h .1)))) (passed-gate _ (p .1) (c .before .before .gate-pass3 .ensures))
 
 same-length-5 : tie.Need-same-length-5
 same-length-5 c = search needs
 
 returns-5 : tie.Need-returns-5
 unfolding meansHere localNumbers
-returns-5 c = let p = c .before .before .before .before .before .before .before .before .before .pre in let h = p .0 (rw (c .before .before .before .before .before .enum-told5 .given .1) refl) in passed-same (p .1) (λ s l. rw (c .before .before .before .before .before .enum-told5 .given .1, c .before .before .before .before .and-gate .ensures) (gate-and _ _ _ ∙ rw (earlier-in (p .1) (h .0), earlier-in (p .1) (h .1)))) (c .before .before .gate-pass4 .ensures)
+returns-5 c = let p = c .before .before .before .before .before .before .before .before .before .pre in let h = p .0 (rw (c .before .before .before .before .before .enum-told5 .given .1) refl) in passed-same (p .1) (λ s l. rw (c .before .before .before .before .before .enum-told5 .given .1, c .before .before .before .before .and-gate .ensures) (gate-and _ _ _ ∙ rw (earlier-in (p .1) (h .0), earlier-in (p .1) (h .1)))) (passed-gate _ (p .1) (c .before .before .gate-pass4 .ensures))
 
 pub local-pass-spec : {M : Type 1} → statement M
 local-pass-spec =

@@ -1,10 +1,14 @@
+-- `open_step`: 10 first, and else what the state's bytes say. Assumes nothing.
 use Rattle.onepass.proofs.CallLaws.{step-ahead, step-opened}
 use borrow.Author.Needs.{needs}
 use Rattle.onepass.proofs.export.open_step.Statement.{statement}
 use Rattle.onepass.proofs.export.open_step.Tie as tie
 
+refuse-ahead-requires : tie.Need-refuse-ahead-requires
+refuse-ahead-requires c κs = search needs
+
 returns : tie.Need-returns
-returns c = step-ahead _ _ _ _ _ (c .if1 .taken)
+returns c = rw (c .refuse-ahead .ensures) (step-ahead _ _ _ _ _ (c .before .if1 .taken))
 
 open-state-requires : tie.Need-open-state-requires
 open-state-requires c κs = search needs
@@ -28,6 +32,7 @@ pub open-step-spec : {M : Type 1} → statement M
 open-step-spec =
     tie.close
     (tie.spec
+    refuse-ahead-requires
     returns
     open-state-requires
     sub-bit-at

@@ -2,7 +2,7 @@
 use native.Mathlib.Omega.{arith}
 use Rattle.text.specs.Text.{refusedLine, ascii}
 use Rattle.text.proofs.PutLaws.{put-rendered}
-use Rattle.text.proofs.Room.{phrase-short}
+use Rattle.text.proofs.Room.{phrase-short, phrase-fits}
 use borrow.Author.Needs.{needs}
 use Rattle.text.proofs.render.put_refused.Statement.{statement}
 use Rattle.text.proofs.render.put_refused.Tie as tie
@@ -15,9 +15,7 @@ slice-aggregate-put-phrase-2 c = search needs
 
 put-phrase-requires : tie.Need-put-phrase-requires
 unfolding ascii
-put-phrase-requires c κs =
-    let a = c .before .before .before .args in
-    omega (arith, phrase-short (ascii "refused ") (ascii "at ") (a .number) (a .place) (omega arith) (omega arith))
+put-phrase-requires c κs = phrase-fits _ _ _ _ (omega arith) (omega arith) (omega arith)
 
 returns : tie.Need-returns
 unfolding refusedLine ascii

@@ -1,0 +1,2 @@
+-- What is done to all words of a buffer alike.
+pub mod Gates
