@@ -73,7 +73,7 @@
  *
  * No function keeps or frees a pointer, allocates, prints or fails to return, and all may be called from
  * several threads at once, each with buffers of its own. pz_evaluate needs some 40 KiB of stack, and
- * pz_read_path some 210 KiB for the most deeply nested string of 1,024 bytes, up to 14 KiB for the texts
+ * pz_read_path some 210 KiB for the most deeply nested string of 1,024 bytes, up to 15 KiB for the texts
  * that were taken when it was measured; the others need less than 1 KiB. (No proof speaks of stack.)
  */
 #ifndef POLONEZAR_H

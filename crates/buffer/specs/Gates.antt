@@ -1,3 +1,4 @@
+-- Working definitions: nothing here has to be believed.
 -- What a gate puts into each word of a buffer. Nothing in it has to be believed: the promise of the crate marking cites none of it.
 -- Shuts out: a word past the last marked. Laws: the crate marking says that these are the marks of kinds 1, 3, 4 and 5. Assumes nothing.
 use Prim.Native.Nat.{ℕ, _*_, _^_}

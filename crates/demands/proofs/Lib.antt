@@ -5,7 +5,6 @@ pub mod Marks
 pub mod Steps
 pub mod Same
 pub mod Verdicts
-pub mod Typed
 pub mod Written
 pub mod Prints
 pub mod Page

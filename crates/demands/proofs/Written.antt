@@ -5,8 +5,8 @@ use mathlib.Core.Path.{_≡_, refl, sym, _∙_}
 use mathlib.Core.Bool.{Bool, true, false, cond}
 use mathlib.Core.List.{List}
 use mathlib.Core.Logic.{_⊎_, inl, inr}
-use lib.ListN.{length, drop}
-use lib.Seq.{drop-append-seam}
+use lib.ListN.{length, take, drop}
+use lib.Seq.{take-append-seam, drop-append-seam}
 use Rattle.numbers.proofs.Lists.{over-is}
 use Rattle.numbers.proofs.Tells.{IsTest, holds, fails, or-tests, not-tests, eqb-tests}
 use Rattle.terms.specs.Limits.{entriesMost}
@@ -22,12 +22,12 @@ use Rattle.paths.specs.Answer.{TextOf, TextGets, bad-size, no-text, bytesFor}
 use Rattle.paths.proofs.Agrees.{table-selects}
 use Rattle.paths.proofs.BackOnly.{table-back}
 use Rattle.paths.proofs.Rule.{table-rule}
+use Rattle.paths.proofs.Unambiguous.{text-only}
 use Rattle.typing.specs.Typed.{Typed}
 use Rattle.typing.specs.declared.export.PathReply.{PathReply}
 use Rattle.typing.proofs.Answered.{by-row, zero-iff, nine-iff, fourteen-iff, thirteen-iff, refused-kept, place-zero, taken-bytes}
 use Rattle.demands.specs.Demands.{Follows, TallyRow, row-12, CountVerdict, PathRow, row-13-size, row-13, row-14, row-9, ReadPath, TypedMeans}
 use Rattle.demands.proofs.Follows.{one-row}
-use Rattle.demands.proofs.Typed.{few, rule-is}
 
 -- ---- the tally
 
@@ -94,6 +94,26 @@ module _ (text rule after : List ℕ) (r : PathReply) (typed : Typed text rule r
       only : {b : Bool} → IsTest (r .number ≡ 0) b → ((k p : ℕ) → PathRow text (length rule) k p → ⊥) → r .number ≡ 0
       only (holds z) none = z
       only (fails n) none = absurd (none (r .number) (r .place) (row-there _ _ refl refl n))
+
+-- The call has taken the text of tree t, and left its rule at the front of the buffer.
+module _ (text lent after : List ℕ) (r : PathReply) (t : Test) (typed : Typed text lent r after) (zero : r .number ≡ 0) (spelt : TextOf text t) where
+  -- The rule, as its caller finds it.
+  abbrev rule : List ℕ
+  rule = take (r .written) after
+
+  -- It has few enough entries, and its bytes are those of the tree's table.
+  few : length (tableOf t) ≤ entriesMost
+  few =
+      let (u, y, (l, m)) = zero-iff text lent r after typed .0 zero in
+      let same : u ≡ t = text-only u t (sym (y .spelt) ∙ spelt .spelt) in rw same at l
+
+  rule-is : rule ≡ bytesFor t
+  rule-is =
+      let (u, y, (l, m)) = zero-iff text lent r after typed .0 zero in
+      let same : u ≡ t = text-only u t (sym (y .spelt) ∙ spelt .spelt) in
+      let room : length (bytesFor t) ≤ length lent = rw same at m in
+      let (count, front) = taken-bytes text lent r after typed spelt zero in
+      rw (count, front, over-is (bytesFor t) lent room) (take-append-seam (bytesFor t) (drop (length (bytesFor t)) lent))
 
 pub read-path : ReadPath
 read-path text rule after r typed =

@@ -1,3 +1,4 @@
+-- Cases, which try what has to be believed: nothing here has to be believed itself.
 -- Document 01's cases down to the bytes: report R's 60 bytes, the bytes of each case's rule, and the program's sample. What the cases'
 -- entries and tags are is said in the crate meaning, specs/Cases. Document 01, "Records", "Sample reports and marks", "The program".
 -- Laws: proofs/Samples.antt. Assumes nothing.

@@ -1,3 +1,4 @@
+-- Working definitions: nothing here has to be believed.
 -- What is always so of a line that is being read. Assumes nothing.
 use Prim.Native.Nat.{_≤_}
 use Rattle.edges.specs.declared.line.Line.{Line}

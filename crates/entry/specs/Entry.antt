@@ -28,6 +28,8 @@ entryOf row s at =
 unfoldable pub entryAt : List ℕ → ℕ → Entry
 entryAt s at = entryOf (rowOf (kindAt s at)) s at
 
+-- ==== Working definitions: nothing below has to be believed
+
 -- Row 3: a label outside 1..999, or an entry number that is not below the entry's own. The row's number of arguments says how
 -- many entry numbers there are.
 unfoldable pub misdirected : Numbers → ℕ → ℕ → Entry → Bool

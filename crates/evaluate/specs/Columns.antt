@@ -1,3 +1,4 @@
+-- Working definitions: nothing here has to be believed.
 -- For how many elements columns are made: an accepted report has ten bytes an element (law: `accepted-size` of grammar).
 -- Assumes nothing.
 use Prim.Native.Nat.{ℕ}

@@ -10,23 +10,12 @@ use lib.Dec.{eqb, ltb}
 use Rattle.terms.specs.Limits.{elementsMost, levelsMost}
 use Rattle.numbers.specs.Bits.{bitAt, withBit}
 
--- ---- what is refused by 11
-
--- The size of a state, and the test for any other.
+-- The size of a state.
 abbrev pub stateSize : ℕ
 stateSize = 1040
 
-unfoldable pub badSize : (size : ℕ) → Bool
-badSize size = not (eqb size stateSize)
-
--- The test for bad numbers: the depth is above 64 or above the elements, or these are above 4,096; root closed is neither 0 nor 1, or is 1
--- with an element open; or byte 6 or byte 7 is not zero.
-unfoldable pub badFields : (depth elements root six seven : ℕ) → Bool
-badFields depth elements root six seven =
-    ltb levelsMost depth || ltb elements depth || ltb elementsMost elements || ltb 1 root || (eqb root 1 && not (eqb depth 0))
-    || not (eqb six 0 && eqb seven 0)
-
--- The same as a proposition, clause by clause: the numbers pass the test.
+-- The numbers that a state not refused by 11 has, clause by clause: the depth is at most 64 and at most the elements, these are at most
+-- 4,096; root closed is 0 or 1, and 1 only with nothing open; bytes 6 and 7 are zero.
 pub record GoodFields (depth elements root six seven : ℕ) : Type 0 where
   pub shallow : depth ≤ levelsMost
   pub within : depth ≤ elements
@@ -34,6 +23,21 @@ pub record GoodFields (depth elements root six seven : ℕ) : Type 0 where
   pub flag : root ≤ 1
   pub shut : root ≡ 1 → depth ≡ 0
   pub spare : (six ≡ 0) × (seven ≡ 0)
+
+-- ==== Working definitions: nothing below has to be believed
+
+-- ---- what is refused by 11
+
+-- The test for another size.
+unfoldable pub badSize : (size : ℕ) → Bool
+badSize size = not (eqb size stateSize)
+
+-- The test for numbers that are not so: the depth is above 64 or above the elements, or these are above 4,096; root closed is neither 0 nor 1, or is 1
+-- with an element open; or byte 6 or byte 7 is not zero.
+unfoldable pub badFields : (depth elements root six seven : ℕ) → Bool
+badFields depth elements root six seven =
+    ltb levelsMost depth || ltb elements depth || ltb elementsMost elements || ltb 1 root || (eqb root 1 && not (eqb depth 0))
+    || not (eqb six 0 && eqb seven 0)
 
 -- ---- what an opening finds
 

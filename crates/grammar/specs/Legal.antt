@@ -1,3 +1,4 @@
+-- Working definitions: nothing here has to be believed.
 -- A sequence of tags that a report may have, and the levels that such a sequence gives. Document 01, "Records" and "Sizes"; rows 6
 -- (label), 7 and 8 of "Numbers given back".
 -- Laws: proofs/Fits.antt, proofs/Trees.antt. Assumes nothing.

@@ -1,3 +1,4 @@
+-- Working definitions: nothing here has to be believed.
 -- The entries of a rule in a table of numbers, as the reader fills it: which entries stand in its first places.
 -- Laws: proofs/Table.antt. Assumes nothing.
 use Prim.Native.Nat.{ℕ, _+_, _*_}

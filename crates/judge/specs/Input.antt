@@ -1,3 +1,4 @@
+-- Working definitions: nothing here has to be believed.
 -- The input of the program: a rule's length in two bytes, the rule, the report to the end. Document 01, "The program".
 -- Shuts out: a length that counts its own two bytes; a rule that reaches past the input.
 -- Assumes nothing.

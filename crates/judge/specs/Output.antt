@@ -1,3 +1,4 @@
+-- What contracts of exported calls name: nothing here has to be believed, since the page (crate demands) states what it comes to.
 -- What the program prints for an input. Document 01, "The program".
 -- Shuts out: an element without its line; a verdict that is not the meaning's; a refusal with another number or place.
 -- Assumes nothing.

@@ -1,3 +1,4 @@
+-- Working definitions: nothing here has to be believed.
 -- What laying a report out answers and leaves in four lent columns of any length. Document 01, "Records": elements, levels and their tree.
 -- Shuts out: a parent or a sibling put where a column has no room; a refused report's elements linked.
 -- Laws: proofs/LayoutLaws.antt, proofs/Only.antt. Assumes nothing.

@@ -1,3 +1,4 @@
+-- Working definitions: nothing here has to be believed.
 -- Parents and previous siblings as columns: a number for each element, its own where it has none.
 -- Shuts out: a first child whose previous sibling is its parent; a cousin taken for a sibling.
 -- Laws: proofs/LinkLaws.antt. Assumes nothing.

@@ -1,3 +1,4 @@
+-- What contracts of exported calls name: nothing here has to be believed, since the page (crate demands) states what it comes to.
 -- Marking a report: number, place, elements and selected, and the mark buffer afterwards. Document 01, "Numbers given back", with
 -- its order, and demand 2.
 -- Shuts out: a refusal that writes; 9 before 6; an invented count; a word past the last element written.

@@ -1,3 +1,4 @@
+-- Working definitions: nothing here has to be believed.
 -- What a pass over the words of n elements leaves: all of them, and each with one bit more.
 -- Shuts out: a word left out; another entry's bit changed.
 -- Laws: proofs/PassLaws.antt. Assumes nothing.

@@ -1,3 +1,4 @@
+-- Working definitions: nothing here has to be believed.
 -- What a pass's marks are, along any function F that leads from an element to one before it.
 -- Laws: proofs/StepLaws.antt says that the marks of a pass are the steps of the crate steps, proofs/KindLaws.antt that along the columns
 -- they are what a kind means.

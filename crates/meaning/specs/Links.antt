@@ -1,3 +1,4 @@
+-- Working definitions: nothing here has to be believed.
 -- Parents and previous siblings as functions that compute, found from the levels.
 -- Laws: proofs/Links.antt says that they are those of the relations Child and Next. Assumes nothing.
 use Prim.Native.Nat.{ℕ, zero, suc}

@@ -1,3 +1,4 @@
+-- Working definitions: nothing here has to be believed.
 -- Marks: the meaning as a test that computes; the word of an element; verdict and selected count. Document 01, "Numbers given back"
 -- (mark buffer) and demand 2.
 -- Laws: proofs/Reflect.antt says that a mark is true exactly where the entry holds; proofs/Words.antt. Assumes nothing.

@@ -1,3 +1,4 @@
+-- Working definitions: nothing here has to be believed.
 -- The table of document 01, "One pass", over an abstract state: what opening and closing do. The bytes of the state are a later
 -- matter. A word has a bit for every entry, however many there are.
 -- Shuts out: the previous sibling's word read where a cousin left it; kinds 7 and 9 more than one step away; root closed forgotten.

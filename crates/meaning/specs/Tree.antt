@@ -45,6 +45,8 @@ Neighbour levels parent = Back (Child levels)
 Neighbour levels next = Next levels
 Neighbour levels previous = Back (Next levels)
 
+-- ==== Working definitions: nothing below has to be believed
+
 -- The way in which a step along an axis leads: on to an element that opens later, or back to one that opened before.
 pub data Direction : Type 0 where
   forward backward : Direction

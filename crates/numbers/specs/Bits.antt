@@ -5,6 +5,17 @@ use mathlib.Core.Bool.{Bool, true, false, cond}
 use mathlib.Core.List.{List, [], _∷_}
 use lib.Dec.{eqb}
 
+-- A number's bit.
+abbrev pub bit : Bool → ℕ
+bit true = 1
+bit false = 0
+
+-- Bit a of a word.
+abbrev pub bitAt : ℕ → ℕ → Bool
+bitAt w a = eqb (w / 2 ^ a % 2) 1
+
+-- ==== Working definitions: nothing below has to be believed
+
 -- A mark word has so many bits, one for each entry that a rule may have.
 abbrev pub wordBits : ℕ
 wordBits = 64
@@ -13,19 +24,10 @@ wordBits = 64
 abbrev pub inWord : ℕ → ℕ
 inWord a = a % wordBits
 
--- A number's bit.
-abbrev pub bit : Bool → ℕ
-bit true = 1
-bit false = 0
-
 -- The word of m marks: bit i is mark i, and the bits from m on are 0.
 unfoldable pub word : ℕ → (ℕ → Bool) → ℕ
 word zero f = 0
 word (suc m) f = bit (f m) * 2 ^ m + word m f
-
--- Bit a of a word.
-abbrev pub bitAt : ℕ → ℕ → Bool
-bitAt w a = eqb (w / 2 ^ a % 2) 1
 
 -- How many words of a list have bit a.
 unfoldable pub haveBit : (a : ℕ) → List ℕ → ℕ

@@ -18,6 +18,12 @@ wordAt (suc k) s at = getD s at 0 + 256 * wordAt k s (at + 1)
 abbrev pub numberAt : List ℕ → ℕ → ℕ
 numberAt s at = wordAt 2 s at
 
+-- The two bytes of a number below 65,536.
+unfoldable pub twoBytes : ℕ → List ℕ
+twoBytes n = n % 256 ∷ n / 256 ∷ []
+
+-- ==== Working definitions: nothing below has to be believed
+
 -- The k low bytes of a value, the lowest first.
 unfoldable pub lowBytes : (k value : ℕ) → List ℕ
 lowBytes zero v = []
@@ -26,7 +32,3 @@ lowBytes (suc k) v = v % 256 ∷ lowBytes k (v / 256)
 -- The byte string with these stored at an offset; every other byte stays.
 unfoldable pub numberPut : (k at value : ℕ) → List ℕ → List ℕ
 numberPut k at v s = putAt s at (lowBytes k v)
-
--- The two bytes of a number below 65,536.
-unfoldable pub twoBytes : ℕ → List ℕ
-twoBytes n = n % 256 ∷ n / 256 ∷ []

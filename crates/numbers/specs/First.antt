@@ -1,3 +1,4 @@
+-- Working definitions: nothing here has to be believed.
 -- The first of some numbers at which a test passes: what "the first faulty record decides" is said with.
 -- Laws: proofs/First.antt. Assumes nothing.
 use Prim.Native.Nat.{ℕ, zero, suc}

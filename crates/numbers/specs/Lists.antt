@@ -10,6 +10,8 @@ module _ {A : Type 0} where
   listed zero f = []
   listed (suc n) f = listed n f ++ (f n ∷ [])
 
+-- ==== Working definitions: nothing below has to be believed
+
 -- A lent list with the values xs stored from an offset on, one after the other; every other place keeps its contents.
 unfoldable pub putAt : List ℕ → ℕ → List ℕ → List ℕ
 putAt lent at xs = sets lent at xs

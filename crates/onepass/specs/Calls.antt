@@ -41,6 +41,8 @@ taken (c ∷ cs) = cond (eqb (c .answer .number) 0) (c ∷ taken cs) (taken cs)
 abbrev pub takenTags : List Call → List Tag
 takenTags cs = tagsCalled (taken cs)
 
+-- ==== Working definitions: nothing below has to be believed
+
 -- A report of n elements that the report reader accepts and whose bytes begin with the bytes of some tags.
 pub record BeginsWith (tags : List Tag) (report : List ℕ) (n : ℕ) : Type 0 where
   pub bytes : Bytes report

@@ -1,3 +1,4 @@
+-- What contracts of exported calls name: nothing here has to be believed, since the page (crate demands) states what it comes to.
 -- What start, open and close answer, and what they leave in the state's bytes. Document 01, "One pass".
 -- Shuts out: a verdict decided once and returned ever after; a rule that looks ahead and is taken; the order of 10 and 11 changed; a
 -- refused call that writes.

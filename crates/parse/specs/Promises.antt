@@ -1,3 +1,4 @@
+-- Working definitions: nothing here has to be believed.
 -- What each function promises at a cursor, over every stack below it, and of the tree that it read. Callers of the crate use `TreeRead`
 -- alone; the rest need not be believed.
 -- Laws: proofs/PartLaws.antt, proofs/TreeLaws.antt, proofs/ReadLaws.antt (one result only). Assumes nothing.

@@ -1,3 +1,4 @@
+-- Working definitions: nothing here has to be believed.
 -- The table in which reading a text notes its tree. A row has three numbers, its form and two more; rows count from 1, and there are 64.
 -- A part of the text stands in the row that is the number of entries before the part and in it, so every part has a row of its own,
 -- above the rows of all that it is made of.

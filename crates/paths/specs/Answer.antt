@@ -32,6 +32,8 @@ pub record TextOf (s : List ℕ) (t : Test) : Type 0 where
 abbrev pub bytesFor : Test → List ℕ
 bytesFor t = ruleBytes (tableOf t)
 
+-- ==== Working definitions: nothing below has to be believed
+
 -- What a string gets as a text, and the entries that it stands for. Row 13: the size is wrong, or the string is no text, which is placed
 -- where it stops being the beginning of one. A text is accepted, with the number of its entries.
 pub data TextGets (s : List ℕ) : Answer → List Entry → Type 0 where

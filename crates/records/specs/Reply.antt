@@ -1,3 +1,4 @@
+-- What contracts of exported calls name: nothing here has to be believed, since the page (crate demands) states what it comes to.
 -- What a reader answers to C: the answer's number, its place and what it counts, as plain numbers. Document 01, "Numbers given back".
 -- Laws: proofs/Only.antt. Assumes nothing.
 use Prim.Native.Nat.{ℕ}

@@ -1,3 +1,4 @@
+-- Working definitions: nothing here has to be believed.
 -- What an accepted report holds, as the lists of labels and levels that the layers above work on. Document 01, "Records".
 -- Laws: proofs/ElementLaws.antt, and the crate grammar. Assumes nothing.
 use Prim.Native.Nat.{ℕ}

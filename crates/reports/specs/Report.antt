@@ -19,6 +19,8 @@ use Rattle.numbers.specs.Lists.{listed}
 abbrev pub tagsBefore : List ℕ → ℕ → List Tag
 tagsBefore s n = listed n (λ i. tagAt s (startOf s i))
 
+-- ==== Working definitions: nothing below has to be believed
+
 -- The number that record i gets.
 unfoldable pub reportFault : List ℕ → ℕ → ℕ
 reportFault s i = recordFault s (startOf s i) (depth (tagsBefore s i)) (openedCount (tagsBefore s i))

@@ -1,3 +1,4 @@
+-- Working definitions: nothing here has to be believed.
 -- What an accepted rule holds, as the list of entries that the layers above work on. Document 01, "Records".
 -- Laws: proofs/EntryLaws.antt, and the crate grammar. Assumes nothing.
 use Prim.Native.Nat.{ℕ}

@@ -1,3 +1,4 @@
+-- Working definitions: nothing here has to be believed.
 -- The rule reader: which number a rule gets, and where. Document 01, "Numbers given back", rows 0 to 4, and its order.
 -- Shuts out: a fault other than the first deciding; a place that is not the record's own.
 -- Laws: proofs/RuleLaws.antt, and the crate grammar. Assumes nothing.

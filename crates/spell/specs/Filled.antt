@@ -1,3 +1,4 @@
+-- Working definitions: nothing here has to be believed.
 -- A buffer that is filled from its front with the records of a table, and changes of the table that it has room for: what a writer asks and
 -- promises that puts part behind part. Nothing here has to be believed: it is how the writer's functions speak to each other.
 -- Laws: proofs/Changes.antt, proofs/PartLaws.antt. Assumes nothing.

@@ -1,3 +1,4 @@
+-- Working definitions: nothing here has to be believed.
 -- The own entries of a part of a text, those besides the entries of its tests, by the part's form. n entries are written before them, so n
 -- is the number of the first, and `last` is n - 1, the last that is written: the test of a step, or the right test of "or". The argument
 -- is the label of `label N`; else an entry: the test of "not", the left test of "or", and for a step what the rest of its path stands for.

@@ -1,3 +1,4 @@
+-- Working definitions: nothing here has to be believed.
 -- What is promised of entries put behind what is written in a lent buffer. `put_part` promises `PartPut`, which is `Adds` of `added`: where
 -- the part's own entries fit, their records stand behind what was written, every other byte is as it was, and they are counted; where they
 -- do not, nothing is put, so every byte and both counts are as they were.

@@ -1,3 +1,4 @@
+-- Working definitions: nothing here has to be believed.
 -- Numbers in a byte string by a layout: groups of numbers of one width, one group after the other from the first byte on. And runs of
 -- stores there, one after the other.
 -- Laws: proofs/RunLaws.antt. Assumes nothing.

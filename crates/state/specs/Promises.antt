@@ -1,3 +1,4 @@
+-- Working definitions: nothing here has to be believed.
 -- What an opening reads of the state's bytes, and what start, an opening and a closing answer from them alone and leave in them.
 -- Document 01, "One pass".
 -- Shuts out: refuse everything; a refused call that writes; a word read past the last level.

@@ -17,7 +17,7 @@ use Rattle.numbers.specs.Bits.{bitAt}
 use Rattle.numbers.specs.Bytes.{wordAt}
 use Rattle.numbers.specs.Lists.{listed}
 
--- The numbers at 0, 2 and 4, and the presence word at 8.
+-- The numbers at 0, 2 and 4.
 abbrev pub depthIn : List ℕ → ℕ
 depthIn s = wordAt 2 s 0
 
@@ -27,6 +27,14 @@ elementsIn s = wordAt 2 s 2
 abbrev pub rootIn : List ℕ → ℕ
 rootIn s = wordAt 2 s 4
 
+-- A state that is not refused by 11: it has 1,040 bytes, and the numbers in front of its words pass their test.
+pub record Good (s : List ℕ) : Type 0 where
+  pub long : length s ≡ stateSize
+  pub fair : GoodFields (depthIn s) (elementsIn s) (rootIn s) (getD s 6 0) (getD s 7 0)
+
+-- ==== Working definitions: nothing below has to be believed
+
+-- The presence word at 8.
 abbrev pub presenceIn : List ℕ → ℕ
 presenceIn s = wordAt 8 s 8
 
@@ -59,8 +67,3 @@ stateOf s =
 -- A state that is refused by 11: it has not 1,040 bytes, or the numbers in front of its words are bad.
 unfoldable pub bad : List ℕ → Bool
 bad s = badSize (length s) || badFields (depthIn s) (elementsIn s) (rootIn s) (getD s 6 0) (getD s 7 0)
-
--- The same as a proposition: the state passes the test.
-pub record Good (s : List ℕ) : Type 0 where
-  pub long : length s ≡ stateSize
-  pub fair : GoodFields (depthIn s) (elementsIn s) (rootIn s) (getD s 6 0) (getD s 7 0)

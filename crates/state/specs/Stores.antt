@@ -1,3 +1,4 @@
+-- Working definitions: nothing here has to be believed.
 -- What start, an opening and a closing write into the state's bytes. Document 01, "One pass".
 -- Shuts out: start that leaves a byte; an opening or a closing that stores a field elsewhere, or one more.
 -- Laws: proofs/StateLaws.antt, proofs/WrittenLaws.antt. Assumes nothing.

@@ -1,3 +1,4 @@
+-- Working definitions: nothing here has to be believed.
 -- What a pass puts at an element, from the element's own bits and what it has read of others.
 -- Shuts out: one child's mark read only; the last element of a way asked a; kind 14 true of no child.
 -- Laws: the crate marking says that the marks of a pass are these steps, and that along the columns they are what a kind means.

@@ -19,6 +19,8 @@ reportLength kind = cond (eqb kind 1) 4 (cond (eqb kind 2) 2 0)
 unfoldable pub tagAt : List ℕ → ℕ → Tag
 tagAt s at = cond (eqb (kindAt s at) 1) (opens (numberAt s (at + 4))) closes
 
+-- ==== Working definitions: nothing below has to be believed
+
 -- The number that the report's record at an offset gets where so many elements are open and so many have been opened before it, in
 -- the order 6, 7, 8; 0 where it has no fault. The root is closed where elements have been opened and none is open.
 unfoldable pub recordFault : List ℕ → ℕ → ℕ → ℕ → ℕ

@@ -30,6 +30,12 @@ labels [] = []
 labels (opens l ∷ ts) = l ∷ labels ts
 labels (closes ∷ ts) = labels ts
 
+-- How many elements the tags open.
+abbrev pub openedCount : List Tag → ℕ
+openedCount ts = length (labels ts)
+
+-- ==== Working definitions: nothing below has to be believed
+
 -- The levels of these elements, d elements being open before the tags: an element's level is how many are open when it opens.
 unfoldable pub levelsFrom : ℕ → List Tag → List ℕ
 levelsFrom d [] = []
@@ -38,10 +44,6 @@ levelsFrom d (closes ∷ ts) = levelsFrom (pred d) ts
 
 abbrev pub levels : List Tag → List ℕ
 levels ts = levelsFrom 0 ts
-
--- How many elements the tags open.
-abbrev pub openedCount : List Tag → ℕ
-openedCount ts = length (labels ts)
 
 -- The number that a tag gets where so many elements are open and so many have been opened, in the order 6, 7, 8; 0 where it has no
 -- fault. Row 6: a label outside 1..999. Row 7: an opening after the root closed, or a closing with nothing open. Row 8: an opening

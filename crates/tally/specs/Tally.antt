@@ -15,10 +15,6 @@ Full t = t .seen ≡ 4294967295
 abbrev pub Balanced : Tally → Type 0
 Balanced t = t .seen ≡ t .selected + t .«passed_over»
 
--- The tally is full, or seen is not the sum of the others: the exact sum, of natural numbers.
-unfoldable pub tallyRefused : Tally → Bool
-tallyRefused t = eqb (t .seen) 4294967295 || not (eqb (t .seen) (t .selected + t .«passed_over»))
-
 -- The tally with one verdict more: seen rises by 1, and so does selected for a true verdict, or passed over for a false one.
 unfoldable pub risen : Tally → Bool → Tally
 risen t verdict =
@@ -27,6 +23,12 @@ risen t verdict =
       selected = cond verdict (t .selected + 1) (t .selected);
       «passed_over» = cond verdict (t .«passed_over») (t .«passed_over» + 1);
     }
+
+-- ==== Working definitions: nothing below has to be believed
+
+-- The tally is full, or seen is not the sum of the others: the exact sum, of natural numbers.
+unfoldable pub tallyRefused : Tally → Bool
+tallyRefused t = eqb (t .seen) 4294967295 || not (eqb (t .seen) (t .selected + t .«passed_over»))
 
 -- What a verdict as C passes it says: 0 is false, anything else is true.
 abbrev pub truthOf : ℕ → Bool

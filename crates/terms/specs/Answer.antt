@@ -1,3 +1,4 @@
+-- Working definitions: nothing here has to be believed.
 -- The cases of a reader's answer, with the paper's number and values of each. Document 01, "Numbers given back": number 0 is
 -- accepted; the place is 0 and the count is the entries or elements there; on refusal the count is 0. Answers are put in the order in
 -- which the tables are asked by `inOrder`, and every promise says its number and place by `numberOf` and `placeOf` of the whole.

@@ -84,10 +84,6 @@ ruleLength kind = rowOf kind .length
 abbrev pub shapeOf : ℕ → Shape
 shapeOf kind = rowOf kind .shape
 
--- The axes in the order of kinds 6 to 9 and 10 to 13.
-unfoldable pub axisOf : ℕ → Axis
-axisOf n = getD (Child ∷ Parent ∷ Next ∷ []) n Previous
-
 -- A step along an axis leads back, to an element that opened before, or on to one that opens later.
 unfoldable pub leadsBack : Axis → Bool
 leadsBack Child = false
@@ -106,3 +102,9 @@ shapeLooksBack EveryChild = false
 
 abbrev pub looksBack : ℕ → Bool
 looksBack kind = shapeLooksBack (shapeOf kind)
+
+-- ==== Working definitions: nothing below has to be believed
+
+-- The axes in the order of kinds 6 to 9 and 10 to 13.
+unfoldable pub axisOf : ℕ → Axis
+axisOf n = getD (Child ∷ Parent ∷ Next ∷ []) n Previous

@@ -9,10 +9,6 @@ use lib.ListN.{length}
 abbrev pub labelMost : ℕ
 labelMost = 999
 
--- A label outside 1..999.
-abbrev pub outside : ℕ → Bool
-outside label = ltb label 1 || ltb labelMost label
-
 -- A rule has 1 to so many bytes and 1 to so many entries.
 abbrev pub ruleMost : ℕ
 ruleMost = 512
@@ -29,6 +25,12 @@ elementsMost = 4096
 
 abbrev pub levelsMost : ℕ
 levelsMost = 64
+
+-- ==== Working definitions: nothing below has to be believed
+
+-- A label outside 1..999.
+abbrev pub outside : ℕ → Bool
+outside label = ltb label 1 || ltb labelMost label
 
 -- A byte string of no byte, or of more than so many: rows 1 and 5.
 abbrev pub missized : (most : ℕ) → List ℕ → Bool

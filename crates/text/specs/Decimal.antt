@@ -19,6 +19,8 @@ digits (suc k) n = cond (ltb n 10) (digit n ∷ []) (digits k (n / 10) ++ (digit
 unfoldable pub decimal : ℕ → List ℕ
 decimal n = digits (suc n) n
 
+-- ==== Working definitions: nothing below has to be believed
+
 -- The number that digits say, where v was read before them: each digit takes what stands before it times ten.
 unfoldable pub valueFrom : ℕ → List ℕ → ℕ
 valueFrom v [] = v

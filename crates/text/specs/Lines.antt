@@ -1,3 +1,4 @@
+-- Working definitions: nothing here has to be believed.
 -- A text as it is read by lines: each line ends with its line feed, the last line may lack it.
 -- Assumes nothing.
 use Prim.Native.Nat.{ℕ}

@@ -1,3 +1,4 @@
+-- Working definitions: nothing here has to be believed.
 -- What is promised of a text that is put into a lent buffer. The buffer has 81,920 bytes: room for any text of 4,096 elements, whatever
 -- the numbers of 16 bits in the tables are (proofs/Room.antt).
 -- Laws: proofs/PutLaws.antt. Assumes nothing.

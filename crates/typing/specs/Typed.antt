@@ -1,3 +1,4 @@
+-- What contracts of exported calls name: nothing here has to be believed, since the page (crate demands) states what it comes to.
 -- What is promised of a typed rule, request #101: the outcome that the text gets (crate paths, specs/Answer.antt), and what is left in
 -- the lent buffer.
 -- Shuts out: a refused text that writes; a byte past the rule changed; a count that is not that of the bytes.

@@ -1,3 +1,4 @@
+-- Working definitions: nothing here has to be believed.
 -- What the writer's functions ask and promise of each other: that parts of a text stand in rows, and that there is room for their entries, or
 -- that these have been put. Nothing here has to be believed: the promise of `write_rule` cites none of it.
 -- Laws: proofs/Below.antt, proofs/Writer.antt. Assumes nothing.

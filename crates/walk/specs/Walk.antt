@@ -1,3 +1,4 @@
+-- Working definitions: nothing here has to be believed.
 -- What one walk of a rule's bytes gives: the rule's answer; of the entries read, whether one looks ahead, and the word of an element
 -- that opens, from its label, its parent's word and its previous sibling's. Document 01, "One pass".
 -- Shuts out: an entry that looks ahead and is not seen; kinds 11 and 13 one step back only.

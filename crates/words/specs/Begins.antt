@@ -1,3 +1,4 @@
+-- Working definitions: nothing here has to be believed.
 -- What begins at a cursor: the byte there says which word has to stand, and that word where the test or the step goes on.
 -- Shuts out: a word that touches the one before it. Nothing here has to be believed, as in Words.
 -- Laws: proofs/BeginSays.antt (what the answers say of reading), proofs/Only.antt. Assumes nothing.

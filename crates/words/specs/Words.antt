@@ -1,3 +1,4 @@
+-- Working definitions: nothing here has to be believed.
 -- Bytes, fixed words and numbers at a cursor, told by the bytes from there. Past the end there is none.
 -- Shuts out: a place one byte late; a number that begins with 0. Nothing here has to be believed: what a text gets is said in `paths`.
 -- Laws: proofs/WordLaws.antt (what the answers say of reading), proofs/Only.antt. Assumes nothing.
