@@ -205,9 +205,17 @@ open-and-close rule state after t r bytes e =
     record {
       follows = rw answer (follows-of (CallRow rule state t) (callOutcome rule state t) (call-iff rule state t bytes) (call-sound rule state t));
       kept = refused-kept rule state t r after e;
-      unjudged = λ h. rw answer (silent (callOutcome rule state t) (λ z. h (rw answer z)));
+      unjudged = λ h.
+          elim h [
+            | inl n ↦ rw answer (silent (callOutcome rule state t) (λ z. n (rw answer z)))
+            | inr c ↦ rw (answer, c) (closed (callOutcome rule state closes))
+          ];
     }
   where
     silent : (a : Answer) → (numberOf a ≡ 0 → ⊥) → byAnswer a (bit (verdictOf (entriesOf rule) (stateOf state) t)) 0 ≡ 0
     silent (Accepted n) h = absurd (h refl)
     silent (Refused k p) h = refl
+
+    closed : (a : Answer) → byAnswer a (bit (verdictOf (entriesOf rule) (stateOf state) closes)) 0 ≡ 0
+    closed (Accepted n) = refl
+    closed (Refused k p) = refl

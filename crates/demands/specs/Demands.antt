@@ -128,7 +128,8 @@ pub data TagRow (state : List ℕ) (t : Tag) : (number : ℕ) → Type 0 where
   row-7 : (Mislabelled t → ⊥) → OutOfPlace state t → TagRow state t 7
   row-8 : (Mislabelled t → ⊥) → (OutOfPlace state t → ⊥) → TooMuch (depthIn state) (elementsIn state) t → TagRow state t 8
 
--- The order of a call: the rule's rows; row 10, an entry looks ahead; row 11, the state does not pass its test; the tag's rows.
+-- The order of a call: the rule's rows; row 10, an entry looks ahead; row 11, the state does not pass its test; the tag's rows. A refusal
+-- and a closing have verdict 0.
 pub data CallRow (rule state : List ℕ) (t : Tag) : (number place : ℕ) → Type 0 where
   of-rule : {k p : ℕ} → RuleRefused rule k p → CallRow rule state t k p
   row-10 : {es : List Entry} → IsRule rule es → (LooksBack es → ⊥) → CallRow rule state t 10 0
@@ -138,7 +139,7 @@ pub data CallRow (rule state : List ℕ) (t : Tag) : (number place : ℕ) → Ty
 pub record CallAnswered (rule state : List ℕ) (t : Tag) (r : StepReply) (after : List ℕ) : Type 0 where
   pub follows : Follows (CallRow rule state t) (r .number) (r .place)
   pub kept : Kept (r .number) state after
-  pub unjudged : (r .number ≡ 0 → ⊥) → r .verdict ≡ 0
+  pub unjudged : (r .number ≡ 0 → ⊥) ⊎ (t ≡ closes) → r .verdict ≡ 0
 
 abbrev pub OpenAndClose : Type 0
 OpenAndClose =
