@@ -3,13 +3,14 @@ use Prim.Native.Nat.{ℕ, zero, suc, pred, _+_, _-_, _≤_, _<_}
 use native.Mathlib.Omega.{arith}
 use borrow.Author.Tests.{le-ltb}
 use mathlib.Core.Path.{_≡_, refl, sym, ap, subst, _∙_}
-use mathlib.Core.Bool.{Bool, cond}
+use mathlib.Core.Bool.{Bool}
 use mathlib.Core.List.{List, [], _∷_, _++_, flatten}
-use lib.Dec.{eqb}
 use lib.ListN.{length, getD}
 use lib.Seq.{length-sets}
-use Rattle.terms.specs.Answer.{numberOf, placeOf, countOf, Accepts}
-use Rattle.terms.proofs.AnswerLaws.{sound-by}
+use Rattle.terms.specs.Answer.{numberOf, countOf, Accepts}
+use Rattle.terms.specs.declared.answer.Answer.{Answer}
+use Rattle.terms.specs.declared.answer.Answer.the-variants.{Accepted, Refused}
+use Rattle.terms.proofs.AnswerLaws.{Sound, order-sound}
 use Rattle.reports.specs.Report.{reportAnswer}
 use Rattle.grammar.proofs.Entries.{entries-count, entries-some}
 use Rattle.grammar.proofs.Elements.{elements-count, levels-elements, elements-few}
@@ -23,12 +24,13 @@ use Rattle.marking.proofs.AnswerLaws.{marked-evaluated, outcome-sound, both-tak
 use Rattle.marking.proofs.Means.{counted, word-is}
 use Rattle.text.specs.Text.{lineOf, elementLines, acceptedLines, acceptedText, headerLine, closingLine, refusedLine}
 use Rattle.text.specs.Rendered.{verdictIn, clamped, tableText, Rendered}
-use Rattle.judge.specs.Output.{room, acceptedPrintout, printoutOfBoth}
+use Rattle.judge.specs.Output.{room, acceptedPrintout, textAnswer, judgementOf, TakenPut, printoutOfBoth}
+use Rattle.judge.specs.declared.judge.Judgement.{Judgement}
 use Rattle.terms.specs.Limits.{elementsMost}
 use Rattle.rules.specs.Entries.{entriesOf}
 use Rattle.reports.specs.Elements.{labelsOf, levelsOf}
 use Rattle.numbers.specs.Lists.{listed, over, putAt}
-use Rattle.numbers.proofs.Lists.{over-at}
+use Rattle.numbers.proofs.Lists.{over-none, over-at}
 use Rattle.reports.proofs.ElementLaws.{taken-lists}
 use Rattle.numbers.proofs.BitLaws.{pred-sub}
 
@@ -125,21 +127,84 @@ module _ (rule report marks labels levels : List ℕ) (entries elements chosen :
       → Rendered (acceptedPrintout rule report) out r after
   accepted-rendered {out} {after} {r} h = subst (λ (t : List ℕ). Rendered t out r after) table-is h
 
--- ---- accepted or refused
+-- ---- taken or refused
 
--- What was answered is printed, as the accepted text where its number is 0 and as the refusal else.
-pub both-rendered : (rule report marks marks₁ out after : List ℕ) (n : ℕ) (r : Evaluation) → Evaluated rule report marks r marks₁
-    → length marks ≡ room → (b : Bool) → eqb (r .number) 0 ≡ b
-    → Rendered (cond b (acceptedPrintout rule report) (refusedLine (r .number) (r .place))) out n after
-    → Rendered (printoutOfBoth rule report) out n after
-unfolding printoutOfBoth evaluation
-both-rendered rule report marks marks₁ out after n r e long b z h =
-    let o = outcome rule report room in
-    let is : r ≡ evaluation rule report room = e .answer ∙ ap (evaluation rule report) long in
-    subst (λ (t : List ℕ). Rendered t out n after)
-    (ap (λ (c : Bool). cond c (acceptedPrintout rule report) (refusedLine (r .number) (r .place))) (sym z)
-    ∙ ap (λ (x : Evaluation). cond (eqb (x .number) 0) (acceptedPrintout rule report) (refusedLine (x .number) (x .place))) is
-    ∙ sym (sound-by o (outcome-sound rule report room) (acceptedPrintout rule report) (refusedLine (numberOf o) (placeOf o)))) h
+module _ (rule report : List ℕ) where
+  -- The answer by what the marking answers.
+  text-refused : {number place : ℕ} → outcome rule report room ≡ Refused number place → textAnswer rule report ≡ Refused number place
+  unfolding textAnswer
+  text-refused e = rw e
+
+  text-taken : {n : ℕ} → outcome rule report room ≡ Accepted n → textAnswer rule report ≡ Accepted (length (acceptedPrintout rule report))
+  unfolding textAnswer
+  text-taken e = rw e
+
+  -- No refusal has number 0.
+  pub text-sound : Sound (textAnswer rule report)
+  unfolding textAnswer
+  text-sound = order-sound (outcome rule report room) _ (outcome-sound rule report room) (λ z. tt)
+
+  module _ {marks marks₁ : List ℕ} {r : Evaluation} (e : Evaluated rule report marks r marks₁) (long : length marks ≡ room) where
+    is : r ≡ evaluation rule report room
+    is = e .answer ∙ ap (evaluation rule report) long
+
+    -- The marking has refused, and nothing is put.
+    pub put-refused : (out : List ℕ) → (r .number ≡ 0 → ⊥)
+        → TakenPut rule report out (record { number = r .number; place = r .place; written = 0 }) out
+    unfolding evaluation
+    put-refused out n = go (outcome rule report room) refl
+      where
+        go : (a : Answer) → outcome rule report room ≡ a → TakenPut rule report out (record { number = r .number; place = r .place; written = 0 }) out
+        go (Accepted k) o = absurd (n (ap (λ (x : Evaluation). x .number) is ∙ ap numberOf o))
+        go (Refused number place) o =
+            record {
+              answer = rw (text-refused o, is, o);
+              fits = omega arith;
+              bytes-are = rw (text-refused o) (sym (over-none out));
+            }
+
+    -- It has accepted, and the text is put.
+    pub put-taken : {out after : List ℕ} {n : ℕ} → r .number ≡ 0 → Rendered (acceptedPrintout rule report) out n after
+        → TakenPut rule report out (record { number = 0; place = 0; written = n }) after
+    put-taken z h =
+        let t = text-taken (both-taken rule report room (ap (λ (x : Evaluation). x .number) (sym is) ∙ z) .is) in
+        record {
+          answer = rw (t, h .length-is);
+          fits = omega (arith, h .length-is, h .fits);
+          bytes-are = rw t (h .bytes-are);
+        }
+
+  -- What is printed: the text that was put, or the refusal in its place.
+  module _ {out mid : List ℕ} {r : Judgement} (p : TakenPut rule report out r mid) where
+    pub printed-taken : r .number ≡ 0 → Rendered (printoutOfBoth rule report) out (r .written) mid
+    unfolding printoutOfBoth
+    printed-taken z = go (outcome rule report room) refl
+      where
+        go : (a : Answer) → outcome rule report room ≡ a → Rendered (printoutOfBoth rule report) out (r .written) mid
+        go (Refused k q) o =
+            absurd (subst Accepts (text-refused o) (text-sound (ap (λ (x : Judgement). x .number) (sym (p .answer)) ∙ z)))
+        go (Accepted n) o =
+            let t = text-taken o in
+            let counted : r .written ≡ length (acceptedPrintout rule report) = ap (λ (x : Judgement). x .written) (p .answer) ∙ ap countOf t in
+            rw o (record { length-is = counted; fits = omega (arith, counted, p .fits); bytes-are = p .bytes-are ∙ rw t })
+
+    pub printed-refused : {after : List ℕ} {n : ℕ} → (r .number ≡ 0 → ⊥) → Rendered (refusedLine (r .number) (r .place)) mid n after
+        → Rendered (printoutOfBoth rule report) out n after
+    unfolding printoutOfBoth
+    printed-refused {after} {n} some h = go (outcome rule report room) refl
+      where
+        go : (a : Answer) → outcome rule report room ≡ a → Rendered (printoutOfBoth rule report) out n after
+        go (Accepted k) o = absurd (some (ap (λ (x : Judgement). x .number) (p .answer) ∙ ap numberOf (text-taken o)))
+        go (Refused k q) o =
+            let t = text-refused o in
+            let kept : mid ≡ out = p .bytes-are ∙ rw t (over-none out) in
+            let answer : r ≡ judgementOf (Refused k q) = p .answer ∙ ap judgementOf t in
+            rw o (rw (kept, answer) at h)
+
+  -- The promise leaves one answer and one content of the buffer.
+  pub put-taken-only : {out after after′ : List ℕ} {r r′ : Judgement} → TakenPut rule report out r after → TakenPut rule report out r′ after′
+      → (r ≡ r′) × (after ≡ after′)
+  put-taken-only p q = (p .answer ∙ sym (q .answer), p .bytes-are ∙ sym (q .bytes-are))
 
 -- ---- the bytes that are written
 
