@@ -7,10 +7,10 @@ use mathlib.Core.Bool.{Bool}
 use mathlib.Core.List.{List, [], _∷_, _++_, flatten}
 use lib.ListN.{length, getD}
 use lib.Seq.{length-sets}
-use Rattle.terms.specs.Answer.{numberOf, countOf, Accepts}
+use Rattle.terms.specs.Answer.{numberOf, countOf, inOrder, Accepts}
 use Rattle.terms.specs.declared.answer.Answer.{Answer}
 use Rattle.terms.specs.declared.answer.Answer.the-variants.{Accepted, Refused}
-use Rattle.terms.proofs.AnswerLaws.{Sound, order-sound}
+use Rattle.terms.proofs.AnswerLaws.{Sound, order-sound, refused-not}
 use Rattle.reports.specs.Report.{reportAnswer}
 use Rattle.grammar.proofs.Entries.{entries-count, entries-some}
 use Rattle.grammar.proofs.Elements.{elements-count, levels-elements, elements-few}
@@ -24,7 +24,7 @@ use Rattle.marking.proofs.AnswerLaws.{marked-evaluated, outcome-sound, both-tak
 use Rattle.marking.proofs.Means.{counted, word-is}
 use Rattle.text.specs.Text.{lineOf, elementLines, acceptedLines, acceptedText, headerLine, closingLine, refusedLine}
 use Rattle.text.specs.Rendered.{verdictIn, clamped, tableText, Rendered}
-use Rattle.judge.specs.Output.{room, acceptedPrintout, textAnswer, judgementOf, TakenPut, printoutOfBoth}
+use Rattle.judge.specs.Output.{room, printed, acceptedPrintout, textAnswer, TakenPut, printoutOfBoth}
 use Rattle.judge.specs.declared.judge.Judgement.{Judgement}
 use Rattle.terms.specs.Limits.{elementsMost}
 use Rattle.rules.specs.Entries.{entriesOf}
@@ -174,32 +174,53 @@ module _ (rule report : List ℕ) where
           bytes-are = rw t (h .bytes-are);
         }
 
-  -- What is printed: the text that was put, or the refusal in its place.
+  -- An answer that takes them counts the bytes of their text.
+  pub text-counted : {n : ℕ} → textAnswer rule report ≡ Accepted n → n ≡ length (acceptedPrintout rule report)
+  unfolding textAnswer
+  text-counted {n} e = go (outcome rule report room) refl
+    where
+      go : (a : Answer) → outcome rule report room ≡ a → n ≡ length (acceptedPrintout rule report)
+      go (Accepted k) o = ap countOf (sym e ∙ text-taken o)
+      go (Refused k p) o = refused-not (sym (text-refused o) ∙ e)
+
+  -- What is printed, by that answer.
+  printed-text : printoutOfBoth rule report ≡ printed (textAnswer rule report) (acceptedPrintout rule report)
+  unfolding textAnswer printoutOfBoth
+  printed-text = go (outcome rule report room)
+    where
+      go : (a : Answer) → printed a (acceptedPrintout rule report) ≡ printed (inOrder a (Accepted (length (acceptedPrintout rule report)))) (acceptedPrintout rule report)
+      go (Accepted k) = refl
+      go (Refused k p) = refl
+
   module _ {out mid : List ℕ} {r : Judgement} (p : TakenPut rule report out r mid) where
-    pub printed-taken : r .number ≡ 0 → Rendered (printoutOfBoth rule report) out (r .written) mid
-    unfolding printoutOfBoth
-    printed-taken z = go (outcome rule report room) refl
+    -- Number 0 says that they were taken, and another one why not.
+    pub judged-taken : r .number ≡ 0 → textAnswer rule report ≡ Accepted (r .written)
+    judged-taken z = go (textAnswer rule report) refl
       where
-        go : (a : Answer) → outcome rule report room ≡ a → Rendered (printoutOfBoth rule report) out (r .written) mid
-        go (Refused k q) o =
-            absurd (subst Accepts (text-refused o) (text-sound (ap (λ (x : Judgement). x .number) (sym (p .answer)) ∙ z)))
-        go (Accepted n) o =
-            let t = text-taken o in
-            let counted : r .written ≡ length (acceptedPrintout rule report) = ap (λ (x : Judgement). x .written) (p .answer) ∙ ap countOf t in
-            rw o (record { length-is = counted; fits = omega (arith, counted, p .fits); bytes-are = p .bytes-are ∙ rw t })
+        go : (a : Answer) → textAnswer rule report ≡ a → textAnswer rule report ≡ Accepted (r .written)
+        go (Accepted n) e = rw (p .answer, e)
+        go (Refused k q) e = absurd (subst Accepts e (text-sound (ap (λ (x : Judgement). x .number) (sym (p .answer)) ∙ z)))
+
+    pub judged-refused : (r .number ≡ 0 → ⊥) → textAnswer rule report ≡ Refused (r .number) (r .place)
+    judged-refused n = go (textAnswer rule report) refl
+      where
+        go : (a : Answer) → textAnswer rule report ≡ a → textAnswer rule report ≡ Refused (r .number) (r .place)
+        go (Accepted k) e = absurd (n (ap (λ (x : Judgement). x .number) (p .answer) ∙ ap numberOf e))
+        go (Refused k q) e = rw (p .answer, e)
+
+    -- What is printed: the text that was put, or the refusal in its place.
+    pub printed-taken : r .number ≡ 0 → Rendered (printoutOfBoth rule report) out (r .written) mid
+    printed-taken z =
+        let t = judged-taken z in
+        let counted = text-counted t in
+        rw (printed-text, t) (record { length-is = counted; fits = omega (arith, counted, p .fits); bytes-are = p .bytes-are ∙ rw t })
 
     pub printed-refused : {after : List ℕ} {n : ℕ} → (r .number ≡ 0 → ⊥) → Rendered (refusedLine (r .number) (r .place)) mid n after
         → Rendered (printoutOfBoth rule report) out n after
-    unfolding printoutOfBoth
-    printed-refused {after} {n} some h = go (outcome rule report room) refl
-      where
-        go : (a : Answer) → outcome rule report room ≡ a → Rendered (printoutOfBoth rule report) out n after
-        go (Accepted k) o = absurd (some (ap (λ (x : Judgement). x .number) (p .answer) ∙ ap numberOf (text-taken o)))
-        go (Refused k q) o =
-            let t = text-refused o in
-            let kept : mid ≡ out = p .bytes-are ∙ rw t (over-none out) in
-            let answer : r ≡ judgementOf (Refused k q) = p .answer ∙ ap judgementOf t in
-            rw o (rw (kept, answer) at h)
+    printed-refused some h =
+        let t = judged-refused some in
+        let kept : mid ≡ out = p .bytes-are ∙ rw t (over-none out) in
+        rw (printed-text, t) (rw kept at h)
 
   -- The promise leaves one answer and one content of the buffer.
   pub put-taken-only : {out after after′ : List ℕ} {r r′ : Judgement} → TakenPut rule report out r after → TakenPut rule report out r′ after′

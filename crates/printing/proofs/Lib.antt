@@ -1,0 +1,3 @@
+-- Proofs of the printout for C.
+pub mod Copies
+pub mod Given
