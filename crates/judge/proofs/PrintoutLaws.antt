@@ -4,6 +4,7 @@ use native.Mathlib.Omega.{arith}
 use borrow.Author.Tests.{le-ltb}
 use mathlib.Core.Path.{_≡_, refl, sym, ap, subst, _∙_}
 use mathlib.Core.Bool.{Bool}
+use mathlib.Core.Logic.{_↔_}
 use mathlib.Core.List.{List, [], _∷_, _++_, flatten}
 use lib.ListN.{length, getD}
 use lib.Seq.{length-sets}
@@ -135,9 +136,17 @@ module _ (rule report : List ℕ) where
   unfolding textAnswer
   text-refused e = rw e
 
-  text-taken : {n : ℕ} → outcome rule report room ≡ Accepted n → textAnswer rule report ≡ Accepted (length (acceptedPrintout rule report))
+  pub text-taken : {n : ℕ} → outcome rule report room ≡ Accepted n → textAnswer rule report ≡ Accepted (length (acceptedPrintout rule report))
   unfolding textAnswer
   text-taken e = rw e
+
+  -- It refuses exactly where the marking does.
+  pub text-refused-iff : (number place : ℕ) → (textAnswer rule report ≡ Refused number place) ↔ (outcome rule report room ≡ Refused number place)
+  text-refused-iff number place = (go (outcome rule report room) refl, text-refused)
+    where
+      go : (a : Answer) → outcome rule report room ≡ a → textAnswer rule report ≡ Refused number place → outcome rule report room ≡ Refused number place
+      go (Accepted n) o e = refused-not (sym e ∙ text-taken o)
+      go (Refused k p) o e = o ∙ sym (text-refused o) ∙ e
 
   -- No refusal has number 0.
   pub text-sound : Sound (textAnswer rule report)

@@ -4,8 +4,7 @@ use native.Mathlib.Omega.{arith}
 use mathlib.Core.Path.{_≡_, sym}
 use lib.ListN.{length, take}
 use Rattle.numbers.specs.Lists.{over}
-use Rattle.numbers.proofs.Lists.{over-none, over-length}
-use Rattle.printing.proofs.Copies.{copied-next}
+use Rattle.numbers.proofs.Lists.{over-none, over-length, copied-next}
 use borrow.Author.Needs.{needs}
 use Rattle.printing.proofs.export.copy_front.Statement.{statement}
 use Rattle.printing.proofs.export.copy_front.Tie as tie
