@@ -32,7 +32,7 @@ use Rattle.text.specs.Text.{elementLine, acceptedText}
 use Rattle.judge.specs.Input.{unsplit, ruleEnd, ruleIn, reportIn}
 use Rattle.judge.specs.Output.{room, printed, acceptedPrintout, textAnswer, printoutOfBoth, printoutAt, printoutOf}
 use Rattle.judge.proofs.SplitLaws.{split-short, split-long}
-use Rattle.judge.proofs.PrintoutLaws.{text-same, text-taken, text-refused-iff, text-counted}
+use Rattle.judge.proofs.PrintoutLaws.{text-same, text-taken, text-refused-iff, text-counted, text-few}
 use Rattle.judge.proofs.Enough.{printout-split}
 use Rattle.printing.specs.Given.{printAnswer}
 use Rattle.printing.proofs.Only.{print-sound, print-refused-iff, refused-kept, taken-given}
@@ -229,7 +229,11 @@ print rule report lent after r rule-bytes report-bytes x =
       behind = λ z.
           let g = taken-given x z in
           rw (g .counted, g .front, over-is text lent (g .roomy)) (drop-append-seam text (drop (length text) lent));
+      few = λ other y. short y;
     }
   where
     text : List ℕ
     text = acceptedPrintout rule report
+
+    short : {other : List ℕ} → LinesOf rule report other → length other ≤ 81920
+    short (lines i j f c) = rw (lines-only (lines i j f c)) (text-few rule report (both-accepted i j))

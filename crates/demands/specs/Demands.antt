@@ -297,7 +297,8 @@ abbrev pub Printout : Type 0
 Printout = (input : List ℕ) → Bytes input → Printed input (printoutOf input)
 
 -- pz_print with a buffer of so many bytes: the rule's rows, then the report's, then row 9, the text has more bytes than the buffer. What
--- is taken leaves its text at the front of the buffer, with all its bytes counted, and what stands behind it as it was.
+-- is taken leaves its text at the front of the buffer, with all its bytes counted, and what stands behind it as it was. No text has more
+-- than 81,920 bytes.
 pub data PrintRow (rule report : List ℕ) (bytes : ℕ) : (number place : ℕ) → Type 0 where
   of-rule : {k p : ℕ} → RuleRefused rule k p → PrintRow rule report bytes k p
   of-report : {es : List Entry} {k p : ℕ} → IsRule rule es → ReportRefused report k p → PrintRow rule report bytes k p
@@ -310,6 +311,7 @@ pub record PrintAnswered (rule report lent : List ℕ) (r : PrintReply) (after :
   pub counted : (text : List ℕ) → LinesOf rule report text → r .number ≡ 0 → r .written ≡ length text
   pub front : r .number ≡ 0 → LinesOf rule report (take (r .written) after)
   pub behind : r .number ≡ 0 → drop (r .written) after ≡ drop (r .written) lent
+  pub few : (text : List ℕ) → LinesOf rule report text → length text ≤ 81920
 
 abbrev pub Print : Type 0
 Print =

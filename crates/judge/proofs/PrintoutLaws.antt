@@ -14,8 +14,9 @@ use Rattle.terms.specs.declared.answer.Answer.the-variants.{Accepted, Refused}
 use Rattle.terms.proofs.AnswerLaws.{Sound, order-sound, refused-not}
 use Rattle.reports.specs.Report.{reportAnswer}
 use Rattle.grammar.proofs.Entries.{entries-count, entries-some}
-use Rattle.grammar.proofs.Elements.{elements-count, levels-elements, elements-few}
-use Rattle.meaning.specs.Marks.{wordOf, verdict, selected}
+use Rattle.grammar.proofs.Elements.{elements-count, levels-elements, elements-few, label-range, levels-legal}
+use Rattle.meaning.specs.Marks.{wordOf, words, verdict, selected}
+use Rattle.meaning.proofs.Words.{words-length}
 use Rattle.layout.specs.Layout.{LaidOut}
 use Rattle.layout.proofs.LayoutLaws.{room-for-any}
 use Rattle.marking.specs.Evaluation.{outcome, evaluation, meantWords, Evaluated, ColumnsAfter, ReportMarked}
@@ -24,7 +25,8 @@ use Rattle.marking.specs.declared.report.Marking.{Marking}
 use Rattle.marking.proofs.AnswerLaws.{marked-evaluated, outcome-sound, both-taken}
 use Rattle.marking.proofs.Means.{counted, word-is}
 use Rattle.text.specs.Text.{lineOf, elementLines, acceptedLines, acceptedText, headerLine, closingLine, refusedLine}
-use Rattle.text.specs.Rendered.{verdictIn, clamped, tableText, Rendered}
+use Rattle.text.specs.Rendered.{bufferSize, verdictIn, clamped, tableText, Rendered}
+use Rattle.text.proofs.Room.{text-short}
 use Rattle.judge.specs.Output.{room, printed, acceptedPrintout, textAnswer, TakenPut, printoutOfBoth}
 use Rattle.judge.specs.declared.judge.Judgement.{Judgement}
 use Rattle.terms.specs.Limits.{elementsMost}
@@ -33,7 +35,7 @@ use Rattle.reports.specs.Elements.{labelsOf, levelsOf}
 use Rattle.numbers.specs.Lists.{listed, over, putAt}
 use Rattle.numbers.proofs.Lists.{over-none, over-at}
 use Rattle.reports.proofs.ElementLaws.{taken-lists}
-use Rattle.numbers.proofs.BitLaws.{pred-sub}
+use Rattle.numbers.proofs.BitLaws.{haveBit-few, pred-sub}
 
 -- ---- lines that agree
 
@@ -168,7 +170,6 @@ module _ (rule report : List ℕ) where
         go (Refused number place) o =
             record {
               answer = rw (text-refused o, is, o);
-              fits = omega arith;
               bytes-are = rw (text-refused o) (sym (over-none out));
             }
 
@@ -179,7 +180,6 @@ module _ (rule report : List ℕ) where
         let t = text-taken (both-taken rule report room (ap (λ (x : Evaluation). x .number) (sym is) ∙ z) .is) in
         record {
           answer = rw (t, h .length-is);
-          fits = omega (arith, h .length-is, h .fits);
           bytes-are = rw t (h .bytes-are);
         }
 
@@ -191,6 +191,26 @@ module _ (rule report : List ℕ) where
       go : (a : Answer) → outcome rule report room ≡ a → n ≡ length (acceptedPrintout rule report)
       go (Accepted k) o = ap countOf (sym e ∙ text-taken o)
       go (Refused k p) o = refused-not (sym (text-refused o) ∙ e)
+
+  -- There are 81,920 bytes at most.
+  pub text-few : {n : ℕ} → textAnswer rule report ≡ Accepted n → n ≤ bufferSize
+  unfolding acceptedPrintout meantWords evaluation
+  text-few {n} e = go (outcome rule report room) refl
+    where
+      go : (a : Answer) → outcome rule report room ≡ a → n ≤ bufferSize
+      go (Refused k p) o = refused-not (sym (text-refused o) ∙ e)
+      go (Accepted m) o =
+          let taken = both-taken rule report room (ap numberOf o) in
+          let same : length (labelsOf report) ≡ length (levelsOf report) = elements-count report ∙ sym (levels-elements report) in
+          let chosen = haveBit-few (pred (length (entriesOf rule))) (words (entriesOf rule) (levelsOf report) (labelsOf report)) in
+          omega (
+            arith,
+            text-counted e,
+            text-short (labelsOf report) (levelsOf report) (verdict (entriesOf rule) (levelsOf report) (labelsOf report)) (length (levelsOf report))
+                (selected (length (entriesOf rule)) (words (entriesOf rule) (levelsOf report) (labelsOf report))) (few report)
+                (omega (arith, chosen, words-length (entriesOf rule) (levelsOf report) (labelsOf report)))
+                (λ k h. (omega (arith, label-range report k (omega arith)), omega (arith, levels-legal report (taken .elements) (taken .report-taken) .low k h))),
+          )
 
   -- What is printed, by that answer.
   printed-text : printoutOfBoth rule report ≡ printed (textAnswer rule report) (acceptedPrintout rule report)
@@ -222,7 +242,7 @@ module _ (rule report : List ℕ) where
     printed-taken z =
         let t = judged-taken z in
         let counted = text-counted t in
-        rw (printed-text, t) (record { length-is = counted; fits = omega (arith, counted, p .fits); bytes-are = p .bytes-are ∙ rw t })
+        rw (printed-text, t) (record { length-is = counted; fits = omega (arith, counted, text-few t); bytes-are = p .bytes-are ∙ rw t })
 
     pub printed-refused : {after : List ℕ} {n : ℕ} → (r .number ≡ 0 → ⊥) → Rendered (refusedLine (r .number) (r .place)) mid n after
         → Rendered (printoutOfBoth rule report) out n after

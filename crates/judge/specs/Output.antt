@@ -2,7 +2,7 @@
 -- What the program prints for an input. Document 01, "The program".
 -- Shuts out: an element without its line; a verdict that is not the meaning's; a refusal with another number or place.
 -- Assumes nothing.
-use Prim.Native.Nat.{ℕ, _≤_}
+use Prim.Native.Nat.{ℕ}
 use mathlib.Core.Path.{_≡_}
 use mathlib.Core.Bool.{cond}
 use mathlib.Core.List.{List}
@@ -14,7 +14,6 @@ use Rattle.terms.specs.declared.answer.Answer.the-variants.{Accepted, Refused}
 use Rattle.marking.specs.Evaluation.{outcome, meantWords}
 use Rattle.numbers.specs.Lists.{over}
 use Rattle.text.specs.Text.{refusedLine, acceptedText}
-use Rattle.text.specs.Rendered.{bufferSize}
 use Rattle.judge.specs.Input.{splitOf, ruleIn, reportIn}
 use Rattle.judge.specs.declared.split.Halves.{Halves}
 use Rattle.judge.specs.declared.judge.Judgement.{Judgement}
@@ -44,11 +43,10 @@ textAnswer rule report = inOrder (outcome rule report room) (Accepted (length (a
 abbrev pub judgementOf : Answer → Judgement
 judgementOf a = record { number = numberOf a; place = placeOf a; written = countOf a }
 
--- What is promised where the text of a rule and a report is put into a buffer of 81,920 bytes: the answer, and the text at the buffer's
--- front where they are taken, which has room for it; every other byte is as it was.
+-- What is promised where the text of a rule and a report is put into a buffer of 81,920 bytes, which always has room for it (law: `text-few`):
+-- the answer, and the text at the buffer's front where they are taken; every other byte is as it was.
 pub record TakenPut (rule report out : List ℕ) (r : Judgement) (after : List ℕ) : Type 0 where
   pub answer : r ≡ judgementOf (textAnswer rule report)
-  pub fits : r .written ≤ bufferSize
   pub bytes-are : after ≡ over (whereAccepted (textAnswer rule report) (acceptedPrintout rule report)) out
 
 -- The text of a rule and a report.

@@ -13,7 +13,7 @@ use Rattle.marking.specs.Evaluation.{shortOfRoom}
 use Rattle.text.specs.Rendered.{bufferSize}
 use Rattle.judge.specs.Output.{acceptedPrintout, textAnswer, TakenPut}
 use Rattle.judge.specs.declared.judge.Judgement.{Judgement}
-use Rattle.judge.proofs.PrintoutLaws.{text-counted, judged-taken, judged-refused}
+use Rattle.judge.proofs.PrintoutLaws.{text-counted, text-few, judged-taken, judged-refused}
 use Rattle.printing.specs.Given.{printAnswer, printReply, PrintoutGiven}
 use Rattle.printing.specs.declared.export.PrintReply.{PrintReply}
 
@@ -42,9 +42,16 @@ module _ (rule report text : List ℕ) where
   given-refused e q = record { reply-is = rw e q; buffer = rw e (sym (over-none text)) }
 
   module _ {whole mid : List ℕ} {judged : Judgement} (p : TakenPut rule report whole judged mid) where
-    -- The call's own buffer keeps its length.
+    -- A text is no longer than the call's own buffer, ..
+    pub written-few : judged .number ≡ 0 → judged .written ≤ bufferSize
+    written-few z = text-few rule report (judged-taken rule report p z)
+
+    -- .. which keeps its length.
     pub whole-long : length whole ≡ bufferSize → length mid ≡ bufferSize
     whole-long long = ap length (p .bytes-are) ∙ over-length _ whole ∙ long
+
+    pub whole-fits : length whole ≡ bufferSize → judged .number ≡ 0 → judged .written ≤ length mid
+    whole-fits long z = omega (arith, whole-long long, written-few z)
 
     -- Rule or report is refused.
     pub given-untaken : {r : PrintReply} → (judged .number ≡ 0 → ⊥) → r ≡ printReply (Refused (judged .number) (judged .place)) → PrintoutGiven rule report text r text
@@ -62,7 +69,7 @@ module _ (rule report text : List ℕ) where
           let t = judged-taken rule report p z in
           let counted = text-counted rule report t in
           let lines = acceptedPrintout rule report in
-          let whole-is : mid ≡ lines ++ drop (length lines) whole = p .bytes-are ∙ rw t (over-is lines whole (omega (arith, counted, p .fits))) in
+          let whole-is : mid ≡ lines ++ drop (length lines) whole = p .bytes-are ∙ rw t (over-is lines whole (omega (arith, counted, text-few rule report t))) in
           let front : take (judged .written) mid ≡ lines = rw (whole-is, counted) (take-append-seam lines (drop (length lines) whole)) in
           let e = print-taken rule report (length text) t l in
           record { reply-is = rw e; buffer = rw e (q ∙ ap (λ (xs : List ℕ). over xs text) front) }

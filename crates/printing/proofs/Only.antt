@@ -13,8 +13,9 @@ use Rattle.terms.specs.declared.answer.Answer.{Answer}
 use Rattle.terms.specs.declared.answer.Answer.the-variants.{Accepted, Refused}
 use Rattle.terms.proofs.AnswerLaws.{Sound, refused-not}
 use Rattle.marking.proofs.AnswerLaws.{room-sound}
+use Rattle.text.specs.Rendered.{bufferSize}
 use Rattle.judge.specs.Output.{acceptedPrintout, textAnswer}
-use Rattle.judge.proofs.PrintoutLaws.{text-sound, text-counted}
+use Rattle.judge.proofs.PrintoutLaws.{text-sound, text-counted, text-few}
 use Rattle.printing.specs.Given.{printAnswer, PrintoutGiven}
 use Rattle.printing.specs.declared.export.PrintReply.{PrintReply}
 use Rattle.printing.proofs.Given.{print-refused, print-short, print-taken}
@@ -29,6 +30,14 @@ module _ (rule report : List ℕ) (bytes : ℕ) where
   pub print-sound : Sound (printAnswer rule report bytes)
   unfolding printAnswer
   print-sound = room-sound bytes (textAnswer rule report) (text-sound rule report)
+
+  -- 81,920 bytes are always room: what is refused then is rule or report.
+  pub printout-room : bufferSize ≤ bytes → printAnswer rule report bytes ≡ textAnswer rule report
+  printout-room l = go (textAnswer rule report) refl
+    where
+      go : (a : Answer) → textAnswer rule report ≡ a → printAnswer rule report bytes ≡ textAnswer rule report
+      go (Refused k p) t = print-refused rule report bytes t ∙ sym t
+      go (Accepted n) t = print-taken rule report bytes t (omega (arith, text-few rule report t)) ∙ sym t
 
   -- A refusal is that of rule or report, or 9 where both are taken and their text has more bytes than there is room for.
   pub print-refused-iff : (k p : ℕ)

@@ -5,7 +5,7 @@ use mathlib.Core.Path.{sym}
 use mathlib.Core.List.{[]}
 use lib.ListN.{length-replicate}
 use Rattle.text.specs.Rendered.{bufferSize}
-use Rattle.printing.proofs.Given.{whole-long, given-untaken, given-short, given-taken}
+use Rattle.printing.proofs.Given.{written-few, whole-long, whole-fits, given-untaken, given-short, given-taken}
 use borrow.Author.Needs.{needs}
 use Rattle.printing.proofs.export.pz_print.Statement.{statement}
 use Rattle.printing.proofs.export.pz_print.Tie as tie
@@ -30,11 +30,10 @@ slice-aggregate-copy-front c = sym (whole-long _ _ [] (c .before .before .before
 
 copy-front-requires : tie.Need-copy-front-requires
 copy-front-requires c κs =
-    let put = c .before .before .before .before .before .before .put-taken .ensures in
-    (omega (arith, put .fits, whole-long _ _ [] put (length-replicate {A = ℕ} bufferSize 0)), search needs)
+    (whole-fits _ _ [] (c .before .before .before .before .before .before .put-taken .ensures) (length-replicate {A = ℕ} bufferSize 0) (search needs), search needs)
 
 cast-t14 : tie.Need-cast-t14
-cast-t14 c = search needs
+cast-t14 c = omega (arith, written-few _ _ [] (c .before .before .before .before .before .before .before .before .before .before .put-taken .ensures) (search needs))
 
 same-length : tie.Need-same-length
 same-length c = search needs
