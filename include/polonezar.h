@@ -3,9 +3,10 @@
  * A report is a tree of labelled elements, a rule is a formula that picks elements out; both are byte
  * strings. pz_read_rule and pz_read_report say whether one is accepted, and if not, why and where.
  * pz_read_path turns a rule that a person typed as text into the rule's bytes.
- * pz_evaluate marks the elements of a whole report at which each entry of a rule holds. pz_start,
- * pz_open and pz_close give the verdict of a rule that looks back only, at the moment an element opens.
- * pz_tally counts verdicts.
+ * pz_evaluate marks the elements of a whole report at which each entry of a rule holds. pz_print writes
+ * the same as text, a line for each element with its verdict, as the program polonezar prints it.
+ * pz_start, pz_open and pz_close give the verdict of a rule that looks back only, at the moment an element
+ * opens. pz_tally counts verdicts.
  *
  * Libraries, for x86-64 Linux. libpolonezar.a has every function: link with -lpolonezar.
  * libpolonezar-readers.a has pz_read_rule and pz_read_report alone: link with -lpolonezar-readers. From
@@ -71,15 +72,16 @@
  * most PTRDIFF_MAX. NULL with length 0 has been tried with every function that takes a length and is
  * fine: it is an empty string, or a buffer without room. NULL with another length is the caller's fault.
  *
- * No function keeps or frees a pointer, allocates, prints or fails to return, and all may be called from
- * several threads at once, each with buffers of its own. pz_evaluate needs some 40 KiB of stack, and
- * pz_read_path some 210 KiB for the most deeply nested string of 1,024 bytes, up to 15 KiB for the texts
- * that were taken when it was measured; the others need less than 1 KiB. (No proof speaks of stack.)
+ * No function keeps or frees a pointer, allocates, writes to a file or fails to return, and all may be called from
+ * several threads at once, each with buffers of its own. pz_evaluate needs some 40 KiB of stack, pz_print
+ * some 145 KiB, and pz_read_path some 210 KiB for the most deeply nested string of 1,024 bytes, up to 15 KiB
+ * for the texts that were taken when it was measured; the others need less than 1 KiB. (No proof speaks of
+ * stack.)
  */
 #ifndef POLONEZAR_H
 #define POLONEZAR_H
 
-#define PZ_VERSION "0.2.0"
+#define PZ_VERSION "0.3.0"
 
 #include <stddef.h>
 #include <stdint.h>
@@ -97,12 +99,13 @@ enum pz_size {
     PZ_REPORT_LEVELS = 64,      /* .. and levels 0 to 63 */
     PZ_LABEL_LEAST = 1,         /* labels are 1 to 999, in rules and in reports */
     PZ_LABEL_MOST = 999,
-    PZ_TEXT_BYTES = 1024        /* a rule typed as text has 1 to 1,024 bytes */
+    PZ_TEXT_BYTES = 1024,       /* a rule typed as text has 1 to 1,024 bytes */
+    PZ_PRINTOUT_BYTES = 81920   /* a printout has fewer bytes, whatever its rule and report are */
 };
 
-/* The numbers given back. pz_read_rule gives 0 to 4; pz_read_report gives 0 and 5 to 8; pz_evaluate
- * gives 0 to 9; pz_start gives 0 and 11; pz_open gives 0 to 4, 6 to 8, 10 and 11; pz_close gives 0 to 4,
- * 7, 10 and 11; pz_tally gives 0 and 12; pz_read_path gives 0, 9, 13 and 14. */
+/* The numbers given back. pz_read_rule gives 0 to 4; pz_read_report gives 0 and 5 to 8; pz_evaluate and
+ * pz_print give 0 to 9; pz_start gives 0 and 11; pz_open gives 0 to 4, 6 to 8, 10 and 11; pz_close gives
+ * 0 to 4, 7, 10 and 11; pz_tally gives 0 and 12; pz_read_path gives 0, 9, 13 and 14. */
 enum pz_number {
     PZ_ACCEPTED = 0,          /* taken as it is */
     PZ_RULE_SIZE = 1,         /* the rule has no bytes, or more than 512 */
@@ -118,7 +121,8 @@ enum pz_number {
                                  root is closed, or an element still open where the report ends */
     PZ_REPORT_FULL = 8,       /* more than 64 levels, or more than 4,096 elements */
     PZ_BUFFER_SHORT = 9,      /* a lent buffer has no room for what is to be written: fewer words than
-                                 there are elements, or, for a typed rule, fewer bytes than the rule has */
+                                 there are elements, or fewer bytes than the rule that was typed, or the
+                                 printout, has */
     PZ_RULE_AHEAD = 10,       /* one pass was asked for with a rule that looks ahead in an entry,
                                  whether the last entry uses it or not */
     PZ_STATE_BAD = 11,        /* the state of one pass is damaged or of another length */
@@ -184,13 +188,16 @@ struct pz_report_reply pz_read_report(const uint8_t *report, size_t report_len);
  *   not label 5, not<left>, (label 10 or label 30), (<child>or<left>). Tests and paths may hold each other
  *   to any depth. A rule that names neither child nor right looks back only, so that pz_open takes it. */
 
-/* What pz_read_path gives. */
+/* What pz_read_path and pz_print give. */
 struct pz_written_reply {
-    uint32_t number;          /* 0 taken, else why not: 9, 13 or 14 of pz_number */
+    uint32_t number;          /* 0 taken, else why not, of pz_number: from pz_read_path 9, 13 or 14, from
+                                 pz_print 1 to 9 */
     uint32_t place;           /* for 13 where the size is good, how many bytes of the text some text of the
                                  grammar, however long, begins with: the offset of the first byte that
-                                 cannot stand there, or the length where the text ends too soon; else 0 */
-    uint32_t written;         /* how many bytes of rule hold the rule, 4 to 456; 0 where it is refused */
+                                 cannot stand there, or the length where the text ends too soon; for 2 to 4
+                                 and 6 to 8 as the reader of the rule or of the report gives it; else 0 */
+    uint32_t written;         /* how many bytes were written at the front of the lent buffer: of a rule 4 to
+                                 456, of a printout 53 to 56,275; 0 where it is refused */
 };
 #define pz_written pz_written_reply         /* earlier name */
 
@@ -228,6 +235,25 @@ struct pz_evaluation_reply {
 struct pz_evaluation_reply pz_evaluate(const uint8_t *rule, size_t rule_len,
                                        const uint8_t *report, size_t report_len,
                                        uint64_t *marks, size_t words);
+
+/* Prints the verdicts of a rule on a report as text, byte for byte what the program polonezar prints for an
+ * accepted rule and report. Lent for this call: rule and report, only read; text, a buffer of text_len
+ * bytes, written where all is accepted: 81,920 (PZ_PRINTOUT_BYTES) are always room. Nothing is kept.
+ * The text is ASCII, in lines that each end with a line feed, with no zero byte behind them: first
+ *     element label level selected
+ * then a line for each element in order, four decimal numbers with one space between them: the element's
+ * number from 0, its label, its level, and 1 where the rule's last entry holds at it, else 0; last
+ *     selected S of N
+ * with S, at how many elements it holds, and N, how many elements there are.
+ * Gives: number 0, place 0 and how many bytes were written, at the front of text; the bytes past them are
+ * as they were. Else the number and its place, written 0, and text as it was; the line `refused N at P`
+ * of the program is not written.
+ * Order: what pz_read_rule gives for the rule, then what pz_read_report gives for the report, then 9
+ * where text_len is below the text's length.
+ * Promise: PrintoutGiven (crates/printing/specs/Given.antt). */
+struct pz_written_reply pz_print(const uint8_t *rule, size_t rule_len,
+                                 const uint8_t *report, size_t report_len,
+                                 uint8_t *text, size_t text_len);
 
 /* The state of one pass: 1,040 bytes that the caller keeps. Numbers and words have the low byte first.
  *

@@ -17,12 +17,12 @@
 #include <sys/mman.h>
 #include <unistd.h>
 
-enum { FUNCTIONS = 8, SHOWN = 5, ROOM = 1 << 17 };
+enum { FUNCTIONS = 9, SHOWN = 5, ROOM = 1 << 17 };
 static const uint32_t AGAIN = 0xFFFFFFFFu;
 
 static const char *const names[FUNCTIONS + 1] = {
     "the end", "pz_read_rule", "pz_read_report", "pz_evaluate", "pz_start", "pz_open", "pz_close", "pz_tally",
-    "pz_read_path"};
+    "pz_read_path", "pz_print"};
 
 static unsigned long passed, failed, calls, counts[FUNCTIONS + 1];
 
@@ -206,8 +206,12 @@ static void call(uint32_t reply[4], const uint8_t *lent_rule, const uint8_t *len
     case 7:
         reply[0] = pz_tally((struct pz_counts *)(void *)buffer, argument);
         return;
-    default:
+    case 8:
         w = pz_read_path(lent_rule, rule.length, buffer, before.length);
+        reply[0] = w.number, reply[1] = w.place, reply[2] = w.written;
+        return;
+    default:
+        w = pz_print(lent_rule, rule.length, lent_report, report.length, buffer, before.length);
         reply[0] = w.number, reply[1] = w.place, reply[2] = w.written;
         return;
     }

@@ -1,5 +1,5 @@
-/* Every name that the header had in version 0.2.0, with the value and the type that it had: a program that uses them
- * stays valid. It is C and C++. The last line is 'N passed, M failed'. */
+/* Every name that the header had in versions 0.2.0 and 0.3.0, with the value and the type that it had: a program that
+ * uses them stays valid. It is C and C++. The last line is 'N passed, M failed'. */
 #include "check.h"
 #include <polonezar.h>
 
@@ -16,6 +16,7 @@ static const struct {
     VALUE(PZ_LABEL_LEAST, 1),
     VALUE(PZ_LABEL_MOST, 999),
     VALUE(PZ_TEXT_BYTES, 1024),
+    VALUE(PZ_PRINTOUT_BYTES, 81920),
     VALUE(PZ_ACCEPTED, 0),
     VALUE(PZ_RULE_SIZE, 1),
     VALUE(PZ_RULE_RECORD, 2),
@@ -58,7 +59,9 @@ static const struct {
     struct pz_step (*open)(const uint8_t *, size_t, uint8_t *, size_t, uint32_t);
     struct pz_step (*close)(const uint8_t *, size_t, uint8_t *, size_t);
     uint32_t (*tally)(struct pz_counts *, uint32_t);
-} functions = {pz_read_rule, pz_read_report, pz_read_path, pz_evaluate, pz_start, pz_open, pz_close, pz_tally};
+    struct pz_written_reply (*print)(const uint8_t *, size_t, const uint8_t *, size_t, uint8_t *, size_t);
+} functions = {pz_read_rule, pz_read_report, pz_read_path, pz_evaluate, pz_start,
+               pz_open,      pz_close,       pz_tally,     pz_print};
 
 /* The enums, where C++ tells them apart. */
 static const enum pz_size size = PZ_TEXT_BYTES;

@@ -66,6 +66,27 @@ static void whole(void)
     check(marks[6] == UINT64_MAX, "the word behind stays");
 }
 
+/* The same as text. */
+static void printed(void)
+{
+    static const char text[] = "element label level selected\n"
+                               "0 1 0 0\n1 10 1 0\n2 20 2 0\n3 30 2 0\n4 10 1 0\n5 20 2 1\n"
+                               "selected 1 of 6\n";
+    uint8_t bytes[PZ_PRINTOUT_BYTES];
+    size_t size = sizeof text - 1;
+    struct pz_written_reply w;
+    memset(bytes, 255, sizeof bytes);
+    w = pz_print(rule, sizeof rule, report_r, sizeof report_r, bytes, size - 1);
+    check(w.number == PZ_BUFFER_SHORT && w.place == 0 && w.written == 0, "no room for the text");
+    w = pz_print(rule, sizeof rule, report_r, sizeof report_r - 4, bytes, sizeof bytes);
+    check(w.number == PZ_REPORT_ORDER && w.place == 56 && w.written == 0, "no printout of a report that stays open");
+    check(bytes[0] == 255 && bytes[size] == 255, "a refusal writes no text");
+    w = pz_print(rule, sizeof rule, report_r, sizeof report_r, bytes, sizeof bytes);
+    check(w.number == PZ_ACCEPTED && w.place == 0 && w.written == size, "the printout");
+    check(memcmp(bytes, text, size) == 0, "a line for each element");
+    check(bytes[size] == 255 && bytes[sizeof bytes - 1] == 255, "the bytes behind the text stay");
+}
+
 /* The state is saved and brought back between any two tags, as a console does that is started again. */
 static void one_pass(void)
 {
@@ -106,6 +127,7 @@ int main(void)
     readers();
     typed();
     whole();
+    printed();
     one_pass();
     printf("polonezar %s\n", PZ_VERSION);
     return result();

@@ -5,7 +5,7 @@ use Rattle.demands.proofs.Marks.{evaluate, tree-relations, demand-2}
 use Rattle.demands.proofs.Steps.{start, open-and-close}
 use Rattle.demands.proofs.Verdicts.{demand-3, both-same}
 use Rattle.demands.proofs.Written.{count-verdict, read-path, typed-means}
-use Rattle.demands.proofs.Prints.{printout}
+use Rattle.demands.proofs.Prints.{printout, print}
 
 pub page : Page
 page =
@@ -24,4 +24,5 @@ page =
       both-same = both-same;
       typed-means = typed-means;
       printout = printout;
+      print = print;
     }

@@ -1,35 +1,104 @@
--- What is printed of an input, over its rule and its report as texts and over what holds. Assumes nothing.
+-- What is printed of an input and for C, over its rule and its report as texts and over what holds. Assumes nothing.
 use Prim.Native.Nat.{ℕ, zero, suc, _+_, _-_, _≤_, _<_}
 use native.Mathlib.Omega.{arith}
 use native.Mathlib.Decide.{decLt}
+use borrow.Author.Tests.{le-ltb}
 use mathlib.Core.Path.{_≡_, refl, sym, ap, _∙_}
-use mathlib.Core.Bool.{true}
-use mathlib.Core.Logic.{_↔_}
+use mathlib.Core.Bool.{Bool, true, false}
+use mathlib.Core.Logic.{_⊎_, inl, inr, ⊎-elim, _↔_}
 use mathlib.Core.List.{List, [], _∷_, _++_}
-use lib.ListN.{length, take, drop, length-append, length-drop, take-append-drop}
-use lib.Seq.{length-take-le, getD-drop, drop-drop}
+use lib.ListN.{length, getD, take, drop, length-append, length-drop, take-append-drop}
+use lib.Seq.{length-take-le, getD-drop, drop-drop, take-append-seam, drop-append-seam}
 use Rattle.numbers.specs.Bytes.{Bytes, wordAt, numberAt, twoBytes}
 use Rattle.numbers.proofs.TwoBytes.{number-back, bytes-back}
+use Rattle.numbers.proofs.Lists.{over-is}
 use Rattle.terms.specs.Limits.{elementsMost}
+use Rattle.terms.specs.Answer.{numberOf}
 use Rattle.terms.specs.declared.answer.Answer.{Answer}
 use Rattle.terms.specs.declared.answer.Answer.the-variants.{Accepted, Refused}
+use Rattle.terms.proofs.AnswerLaws.{refused-not}
+use Rattle.entry.specs.declared.entry.Entry.{Entry}
 use Rattle.reports.specs.Elements.{labelsOf, levelsOf}
 use Rattle.rules.specs.Entries.{entriesOf}
-use Rattle.grammar.specs.Reports.{sizeT}
+use Rattle.grammar.specs.Rules.{IsRule}
+use Rattle.grammar.specs.Reports.{Tree, sizeT, IsReport}
 use Rattle.meaning.specs.Marks.{verdict}
 use Rattle.meaning.specs.Rose.{labelsT, levelsT}
 use Rattle.meaning.proofs.Reflect.{verdict-iff}
-use Rattle.meaning.proofs.Words.{selected-words}
-use Rattle.marking.specs.Evaluation.{outcome, evaluation, meantWords}
+use Rattle.meaning.proofs.Words.{countBelow, selected-words}
+use Rattle.marking.specs.Evaluation.{shortOfRoom, outcome, evaluation, meantWords}
 use Rattle.marking.proofs.AnswerLaws.{both-taken}
-use Rattle.terms.specs.Answer.{numberOf}
+use Rattle.text.specs.Text.{elementLine, acceptedText}
 use Rattle.judge.specs.Input.{unsplit, ruleEnd, ruleIn, reportIn}
-use Rattle.judge.specs.Output.{room, printed, acceptedPrintout, printoutOfBoth, printoutAt, printoutOf}
+use Rattle.judge.specs.Output.{room, printed, acceptedPrintout, textAnswer, printoutOfBoth, printoutAt, printoutOf}
 use Rattle.judge.proofs.SplitLaws.{split-short, split-long}
+use Rattle.judge.proofs.PrintoutLaws.{text-same, text-taken, text-refused-iff, text-counted, text-few}
 use Rattle.judge.proofs.Enough.{printout-split}
-use Rattle.demands.specs.Demands.{Selected, Parts, Printed, no-rule, refused, accepted, Printout}
-use Rattle.demands.proofs.Readers.{is-entries, taken-is, accepted-is}
+use Rattle.printing.specs.Given.{printAnswer}
+use Rattle.printing.proofs.Only.{print-sound, print-refused-iff, refused-kept, taken-given}
+use Rattle.demands.specs.Demands.{Selected, Counts, nothing, with, without, EvaluateRow, LinesOf, lines, Parts, Printed, no-rule, refused, accepted, Printout, PrintRow, of-rule, of-report, row-9, Print}
+use Rattle.demands.proofs.Follows.{follows-of}
+use Rattle.demands.proofs.Readers.{is-taken, is-entries, taken-is, is-accepted, accepted-is}
 use Rattle.demands.proofs.Marks.{evaluate-iff, counts-of, is-levels, is-labels, is-size}
+
+-- ---- the text of a rule and a report
+
+same-bool : {P : Type 0} (a b : Bool) → (a ≡ true) ↔ P → (b ≡ true) ↔ P → a ≡ b
+same-bool true b p q = sym (q .1 (p .0 refl))
+same-bool false true p q = p .1 (q .0 refl)
+same-bool false false p q = refl
+
+-- There is one count only.
+counts-only : {P : ℕ → Type 0} {n c d : ℕ} → Counts P n c → Counts P n d → c ≡ d
+counts-only nothing nothing = refl
+counts-only (with x h) (with y k) = ap suc (counts-only x y)
+counts-only (with x h) (without y k) = absurd (k h)
+counts-only (without x h) (with y k) = absurd (h k)
+counts-only (without x h) (without y k) = counts-only x y
+
+module _ {rule report : List ℕ} {es : List Entry} {t : Tree} (i : IsRule rule es) (j : IsReport report t) where
+  -- The meaning's verdicts, and how many there are.
+  abbrev chosen : ℕ → Bool
+  chosen = verdict es (levelsT t 0) (labelsT t)
+
+  tells : (s : ℕ) → s < sizeT t → (chosen s ≡ true) ↔ Selected t es s
+  tells s l = verdict-iff (levelsT t 0) (labelsT t) es s (i .entries .nonempty) (rw (is-size j) l)
+
+  text-is : acceptedPrintout rule report ≡ acceptedText (labelsT t) (levelsT t 0) chosen (sizeT t) (countBelow (sizeT t) chosen)
+  unfolding acceptedPrintout meantWords
+  text-is = rw (selected-words (entriesOf rule) (levelsOf report) (labelsOf report), is-entries i, is-levels j, is-labels j, is-size j)
+
+  -- What the layers below put has the lines of the page, ..
+  pub lines-put : LinesOf rule report (acceptedPrintout rule report)
+  lines-put = rw text-is (lines i j tells (counts-of (Selected t es) chosen (sizeT t) tells))
+
+  -- .. and rule and report are taken.
+  pub both-accepted : textAnswer rule report ≡ Accepted (length (acceptedPrintout rule report))
+  unfolding outcome shortOfRoom
+  both-accepted = text-taken rule report taken
+    where
+      taken : outcome rule report room ≡ Accepted (sizeT t)
+      taken = rw (is-taken i, is-accepted j, le-ltb elementsMost (sizeT t) (j .within .few))
+
+-- No other text has these lines.
+pub lines-only : {rule report text : List ℕ} → LinesOf rule report text → text ≡ acceptedPrintout rule report
+lines-only (lines {es} {t} {verdicts} {count} i j f c) =
+    text-same (labelsT t) (levelsT t 0) (labelsT t) (levelsT t 0) verdicts (chosen i j) (sizeT t) count
+    (λ s l. ap (elementLine s (getD (labelsT t) s 0) (getD (levelsT t 0) s 0)) (same-bool (verdicts s) (chosen i j s) (f s l) (tells i j s l)))
+    ∙ ap (acceptedText (labelsT t) (levelsT t 0) (chosen i j) (sizeT t)) (counts-only c (counts-of (Selected t es) (chosen i j) (sizeT t) (tells i j)))
+    ∙ sym (text-is i j)
+
+-- What is taken has its text.
+lines-taken : {rule report : List ℕ} → Bytes rule → Bytes report → (n : ℕ) → textAnswer rule report ≡ Accepted n
+    → LinesOf rule report (acceptedPrintout rule report)
+unfolding evaluation
+lines-taken {rule} {report} rule-bytes bytes n e = go (outcome rule report room) refl
+  where
+    go : (a : Answer) → outcome rule report room ≡ a → LinesOf rule report (acceptedPrintout rule report)
+    go (Refused k p) o = refused-not (sym (text-refused-iff rule report k p .1 o) ∙ e)
+    go (Accepted m) o =
+        let taken = both-taken rule report room (ap numberOf o) in
+        lines-put (taken-is rule-bytes (taken .rule-taken) .1) (accepted-is bytes (taken .report-taken) .1)
 
 -- ---- parts of a byte string are byte strings
 
@@ -93,18 +162,8 @@ module _ (input : List ℕ) (bytes : Bytes input) (some : 2 ≤ length input) (f
 
   -- What is printed of the two.
   told : (a : Answer) → outcome rule report room ≡ a → Printed input (printed a (acceptedPrintout rule report))
-  unfolding evaluation acceptedPrintout meantWords
-  told (Refused k p) e =
-      refused parts (evaluate-iff rule report elementsMost rule-bytes report-bytes k p .0 e)
-  told (Accepted n) e =
-      let taken = both-taken rule report room (ap numberOf e) in
-      let (es, i) = taken-is rule-bytes (taken .rule-taken) in
-      let (t, j) = accepted-is report-bytes (taken .report-taken) in
-      let count = selected-words (entriesOf rule) (levelsOf report) (labelsOf report) in
-      let tells : (s : ℕ) → s < sizeT t → (verdict es (levelsT t 0) (labelsT t) s ≡ true) ↔ Selected t es s =
-      λ s l. verdict-iff (levelsT t 0) (labelsT t) es s (i .entries .nonempty) (rw (is-size j) l) in
-      rw (count, is-entries i, is-levels j, is-labels j, is-size j)
-      (accepted parts i j tells (counts-of (Selected t es) (verdict es (levelsT t 0) (labelsT t)) (sizeT t) tells))
+  told (Refused k p) e = refused parts (evaluate-iff rule report elementsMost rule-bytes report-bytes k p .0 e)
+  told (Accepted n) e = accepted parts (lines-taken rule-bytes report-bytes _ (text-taken rule report e))
 
 -- ---- the printout
 
@@ -124,3 +183,57 @@ printout input bytes =
 
     whole : 2 ≤ length input → ruleEnd input ≤ length input → Printed input (printoutOf input)
     whole some fits = rw (printout-split input some fits) (told input bytes some fits _ refl)
+
+-- ---- for C
+
+module _ (rule report : List ℕ) (bytes : ℕ) (rule-bytes : Bytes rule) (report-bytes : Bytes report) where
+  -- The evaluator's table, there being room for every report: what it has, and that its row 9 never applies.
+  row-there : {k p : ℕ} → EvaluateRow rule report elementsMost k p → PrintRow rule report bytes k p
+  row-there (of-rule r) = of-rule r
+  row-there (of-report i r) = of-report i r
+  row-there (row-9 i j l) = absurd (omega (arith, j .within .few))
+
+  -- The order of refusals is the table's.
+  print-iff : (k p : ℕ) → (printAnswer rule report bytes ≡ Refused k p) ↔ PrintRow rule report bytes k p
+  print-iff k p = (
+    λ e. ⊎-elim (λ t. row-there (evaluate-iff rule report elementsMost rule-bytes report-bytes k p .0 (text-refused-iff rule report k p .0 t))) short
+        (print-refused-iff rule report bytes k p .0 e),
+    λ row. print-refused-iff rule report bytes k p .1 (back row),
+  )
+    where
+      short : (n : ℕ) × (textAnswer rule report ≡ Accepted n) × (bytes < n) × (9 ≡ k) × (0 ≡ p) → PrintRow rule report bytes k p
+      short (n, t, l, nine, start) =
+          rw (← nine, ← start) (row-9 (lines-taken rule-bytes report-bytes n t) (rw (text-counted rule report t) at l))
+
+      back : {m q : ℕ} → PrintRow rule report bytes m q
+          → (textAnswer rule report ≡ Refused m q) ⊎ ((n : ℕ) × (textAnswer rule report ≡ Accepted n) × (bytes < n) × (9 ≡ m) × (0 ≡ q))
+      back {m} {q} (of-rule r) =
+          inl (text-refused-iff rule report m q .1 (evaluate-iff rule report elementsMost rule-bytes report-bytes m q .1 (of-rule r)))
+      back {m} {q} (of-report i r) =
+          inl (text-refused-iff rule report m q .1 (evaluate-iff rule report elementsMost rule-bytes report-bytes m q .1 (of-report i r)))
+      back (row-9 {text} (lines i j f c) l) =
+          inr (length (acceptedPrintout rule report), both-accepted i j, rw (lines-only (lines i j f c)) at l, refl, refl)
+
+pub print : Print
+print rule report lent after r rule-bytes report-bytes x =
+    record {
+      follows = rw (x .reply-is)
+          (follows-of (PrintRow rule report (length lent)) _ (print-iff rule report (length lent) rule-bytes report-bytes) (print-sound rule report (length lent)));
+      kept = λ h. refused-kept x h .0;
+      uncounted = λ h. refused-kept x h .1;
+      counted = λ text y z. rw (lines-only y) (taken-given x z .counted);
+      front = λ z.
+          let g = taken-given x z in
+          rw (g .counted, g .front, over-is text lent (g .roomy), take-append-seam text (drop (length text) lent))
+          (lines-taken rule-bytes report-bytes _ (g .taken));
+      behind = λ z.
+          let g = taken-given x z in
+          rw (g .counted, g .front, over-is text lent (g .roomy)) (drop-append-seam text (drop (length text) lent));
+      few = λ other y. short y;
+    }
+  where
+    text : List ℕ
+    text = acceptedPrintout rule report
+
+    short : {other : List ℕ} → LinesOf rule report other → length other ≤ 81920
+    short (lines i j f c) = rw (lines-only (lines i j f c)) (text-few rule report (both-accepted i j))

@@ -1,12 +1,12 @@
 -- What Polonezar promises, on one page. Every statement is about what a call has answered and left: `RuleRead`, `ReportRead`,
--- `Evaluated`, `Started`, `Promised` (open and close), `Tallied`, `Typed` and `printoutOf` are the promises that the contracts of the
--- exported functions name in the code. What they say in detail need not be read: whatever meets them has the properties stated here, and
--- the checker has seen that the functions meet them. Strings are lists of numbers below 256 (`Bytes`), as C lends them.
+-- `Evaluated`, `Started`, `Promised` (open and close), `Tallied`, `Typed`, `printoutOf` and `PrintoutGiven` are the promises that the
+-- contracts of the exported functions name in the code. What they say in detail need not be read: whatever meets them has the properties
+-- stated here, and the checker has seen that the functions meet them. Strings are lists of numbers below 256 (`Bytes`), as C lends them.
 --
 -- What the statements use: rules and reports as texts and the rows of refusals (crate grammar, specs/Rules, Reports and When), the tree
 -- and what an entry means on it (crate meaning, specs/Tree, Rose and Meaning), typed rules (crate paths), the state's numbers (crate
 -- state, specs/State), the lines of a printout (crate text, specs/Text).
--- Promises: RuleRead ReportRead Evaluated Started Opened Closed Tallied Typed printoutOf.
+-- Promises: RuleRead ReportRead Evaluated Started Opened Closed Tallied Typed printoutOf PrintoutGiven.
 -- The record `Page` at the end has all statements, and `page` in proofs/Page.antt proves it. Assumes nothing.
 use Prim.Native.Nat.{ℕ, suc, pred, _≤_, _<_}
 use mathlib.Core.Path.{_≡_}
@@ -48,6 +48,8 @@ use Rattle.typing.specs.Typed.{Typed}
 use Rattle.typing.specs.declared.export.PathReply.{PathReply}
 use Rattle.text.specs.Text.{refusedLine, acceptedText}
 use Rattle.judge.specs.Output.{printoutOf}
+use Rattle.printing.specs.Given.{PrintoutGiven}
+use Rattle.printing.specs.declared.export.PrintReply.{PrintReply}
 
 -- ==== Demand 1: taken, or refused by a number of the documents, exactly where the tables say; a refusal leaves what was lent
 
@@ -272,24 +274,50 @@ TypedMeans =
 
 -- ==== The printout: no element without its line, and what each line says
 
+-- The text of a rule and a report that are taken: a header, a line for each element in order with its label, its level and its verdict,
+-- and the counts.
+pub data LinesOf (rule report : List ℕ) : (text : List ℕ) → Type 0 where
+  lines : {es : List Entry} {t : Tree} {verdicts : ℕ → Bool} {count : ℕ} → IsRule rule es → IsReport report t
+      → ((s : ℕ) → s < sizeT t → (verdicts s ≡ true) ↔ Selected t es s) → Counts (Selected t es) (sizeT t) count
+      → LinesOf rule report (acceptedText (labelsT t) (levelsT t 0) verdicts (sizeT t) count)
+
 -- The input is the two bytes of a rule's length, the rule, and the report to the end.
 pub record Parts (input rule report : List ℕ) : Type 0 where
   pub short : length rule < 65536
   pub bytes-are : input ≡ twoBytes (length rule) ++ (rule ++ report)
 
--- What is printed of an input: a refusal's line, by row 1 where there is no such rule; or a header, a line for each element in order with
--- its label, its level and its verdict, and the counts. A buffer has room for every report, so that row 9 is never printed.
+-- What is printed of an input: a refusal's line, by row 1 where there is no such rule; or the text. A buffer has room for every report,
+-- so that row 9 is never printed.
 pub data Printed (input : List ℕ) : (printout : List ℕ) → Type 0 where
   no-rule : ((rule report : List ℕ) → Parts input rule report → ⊥) → Printed input (refusedLine 1 0)
   refused : {rule report : List ℕ} {k p : ℕ} → Parts input rule report → EvaluateRow rule report elementsMost k p
       → Printed input (refusedLine k p)
-  accepted : {rule report : List ℕ} {es : List Entry} {t : Tree} {verdicts : ℕ → Bool} {count : ℕ}
-      → Parts input rule report → IsRule rule es → IsReport report t
-      → ((s : ℕ) → s < sizeT t → (verdicts s ≡ true) ↔ Selected t es s) → Counts (Selected t es) (sizeT t) count
-      → Printed input (acceptedText (labelsT t) (levelsT t 0) verdicts (sizeT t) count)
+  accepted : {rule report text : List ℕ} → Parts input rule report → LinesOf rule report text → Printed input text
 
 abbrev pub Printout : Type 0
 Printout = (input : List ℕ) → Bytes input → Printed input (printoutOf input)
+
+-- pz_print with a buffer of so many bytes: the rule's rows, then the report's, then row 9, the text has more bytes than the buffer. What
+-- is taken leaves its text at the front of the buffer, with all its bytes counted, and what stands behind it as it was. No text has more
+-- than 81,920 bytes.
+pub data PrintRow (rule report : List ℕ) (bytes : ℕ) : (number place : ℕ) → Type 0 where
+  of-rule : {k p : ℕ} → RuleRefused rule k p → PrintRow rule report bytes k p
+  of-report : {es : List Entry} {k p : ℕ} → IsRule rule es → ReportRefused report k p → PrintRow rule report bytes k p
+  row-9 : {text : List ℕ} → LinesOf rule report text → bytes < length text → PrintRow rule report bytes 9 0
+
+pub record PrintAnswered (rule report lent : List ℕ) (r : PrintReply) (after : List ℕ) : Type 0 where
+  pub follows : Follows (PrintRow rule report (length lent)) (r .number) (r .place)
+  pub kept : Kept (r .number) lent after
+  pub uncounted : (r .number ≡ 0 → ⊥) → r .written ≡ 0
+  pub counted : (text : List ℕ) → LinesOf rule report text → r .number ≡ 0 → r .written ≡ length text
+  pub front : r .number ≡ 0 → LinesOf rule report (take (r .written) after)
+  pub behind : r .number ≡ 0 → drop (r .written) after ≡ drop (r .written) lent
+  pub few : (text : List ℕ) → LinesOf rule report text → length text ≤ 81920
+
+abbrev pub Print : Type 0
+Print =
+    (rule report lent after : List ℕ) (r : PrintReply) → Bytes rule → Bytes report → PrintoutGiven rule report lent r after
+    → PrintAnswered rule report lent r after
 
 -- ==== All of it
 
@@ -308,6 +336,7 @@ pub record Page : Type 0 where
   pub demand-2 : Demand2
   pub demand-3 : Demand3
   pub both-same : BothSame
-  -- Typed rules, and the printout.
+  -- Typed rules, and the printout, of an input and for C.
   pub typed-means : TypedMeans
   pub printout : Printout
+  pub print : Print

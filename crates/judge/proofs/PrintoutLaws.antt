@@ -3,17 +3,20 @@ use Prim.Native.Nat.{ℕ, zero, suc, pred, _+_, _-_, _≤_, _<_}
 use native.Mathlib.Omega.{arith}
 use borrow.Author.Tests.{le-ltb}
 use mathlib.Core.Path.{_≡_, refl, sym, ap, subst, _∙_}
-use mathlib.Core.Bool.{Bool, cond}
+use mathlib.Core.Bool.{Bool}
+use mathlib.Core.Logic.{_↔_}
 use mathlib.Core.List.{List, [], _∷_, _++_, flatten}
-use lib.Dec.{eqb}
 use lib.ListN.{length, getD}
 use lib.Seq.{length-sets}
-use Rattle.terms.specs.Answer.{numberOf, placeOf, countOf, Accepts}
-use Rattle.terms.proofs.AnswerLaws.{sound-by}
+use Rattle.terms.specs.Answer.{numberOf, countOf, inOrder, Accepts}
+use Rattle.terms.specs.declared.answer.Answer.{Answer}
+use Rattle.terms.specs.declared.answer.Answer.the-variants.{Accepted, Refused}
+use Rattle.terms.proofs.AnswerLaws.{Sound, order-sound, refused-not}
 use Rattle.reports.specs.Report.{reportAnswer}
 use Rattle.grammar.proofs.Entries.{entries-count, entries-some}
-use Rattle.grammar.proofs.Elements.{elements-count, levels-elements, elements-few}
-use Rattle.meaning.specs.Marks.{wordOf, verdict, selected}
+use Rattle.grammar.proofs.Elements.{elements-count, levels-elements, elements-few, label-range, levels-legal}
+use Rattle.meaning.specs.Marks.{wordOf, words, verdict, selected}
+use Rattle.meaning.proofs.Words.{words-length}
 use Rattle.layout.specs.Layout.{LaidOut}
 use Rattle.layout.proofs.LayoutLaws.{room-for-any}
 use Rattle.marking.specs.Evaluation.{outcome, evaluation, meantWords, Evaluated, ColumnsAfter, ReportMarked}
@@ -22,15 +25,17 @@ use Rattle.marking.specs.declared.report.Marking.{Marking}
 use Rattle.marking.proofs.AnswerLaws.{marked-evaluated, outcome-sound, both-taken}
 use Rattle.marking.proofs.Means.{counted, word-is}
 use Rattle.text.specs.Text.{lineOf, elementLines, acceptedLines, acceptedText, headerLine, closingLine, refusedLine}
-use Rattle.text.specs.Rendered.{verdictIn, clamped, tableText, Rendered}
-use Rattle.judge.specs.Output.{room, acceptedPrintout, printoutOfBoth}
+use Rattle.text.specs.Rendered.{bufferSize, verdictIn, clamped, tableText, Rendered}
+use Rattle.text.proofs.Room.{text-short}
+use Rattle.judge.specs.Output.{room, printed, acceptedPrintout, textAnswer, TakenPut, printoutOfBoth}
+use Rattle.judge.specs.declared.judge.Judgement.{Judgement}
 use Rattle.terms.specs.Limits.{elementsMost}
 use Rattle.rules.specs.Entries.{entriesOf}
 use Rattle.reports.specs.Elements.{labelsOf, levelsOf}
 use Rattle.numbers.specs.Lists.{listed, over, putAt}
-use Rattle.numbers.proofs.Lists.{over-at}
+use Rattle.numbers.proofs.Lists.{over-none, over-at}
 use Rattle.reports.proofs.ElementLaws.{taken-lists}
-use Rattle.numbers.proofs.BitLaws.{pred-sub}
+use Rattle.numbers.proofs.BitLaws.{haveBit-few, pred-sub}
 
 -- ---- lines that agree
 
@@ -125,21 +130,131 @@ module _ (rule report marks labels levels : List ℕ) (entries elements chosen :
       → Rendered (acceptedPrintout rule report) out r after
   accepted-rendered {out} {after} {r} h = subst (λ (t : List ℕ). Rendered t out r after) table-is h
 
--- ---- accepted or refused
+-- ---- taken or refused
 
--- What was answered is printed, as the accepted text where its number is 0 and as the refusal else.
-pub both-rendered : (rule report marks marks₁ out after : List ℕ) (n : ℕ) (r : Evaluation) → Evaluated rule report marks r marks₁
-    → length marks ≡ room → (b : Bool) → eqb (r .number) 0 ≡ b
-    → Rendered (cond b (acceptedPrintout rule report) (refusedLine (r .number) (r .place))) out n after
-    → Rendered (printoutOfBoth rule report) out n after
-unfolding printoutOfBoth evaluation
-both-rendered rule report marks marks₁ out after n r e long b z h =
-    let o = outcome rule report room in
-    let is : r ≡ evaluation rule report room = e .answer ∙ ap (evaluation rule report) long in
-    subst (λ (t : List ℕ). Rendered t out n after)
-    (ap (λ (c : Bool). cond c (acceptedPrintout rule report) (refusedLine (r .number) (r .place))) (sym z)
-    ∙ ap (λ (x : Evaluation). cond (eqb (x .number) 0) (acceptedPrintout rule report) (refusedLine (x .number) (x .place))) is
-    ∙ sym (sound-by o (outcome-sound rule report room) (acceptedPrintout rule report) (refusedLine (numberOf o) (placeOf o)))) h
+module _ (rule report : List ℕ) where
+  -- The answer by what the marking answers.
+  text-refused : {number place : ℕ} → outcome rule report room ≡ Refused number place → textAnswer rule report ≡ Refused number place
+  unfolding textAnswer
+  text-refused e = rw e
+
+  pub text-taken : {n : ℕ} → outcome rule report room ≡ Accepted n → textAnswer rule report ≡ Accepted (length (acceptedPrintout rule report))
+  unfolding textAnswer
+  text-taken e = rw e
+
+  -- It refuses exactly where the marking does.
+  pub text-refused-iff : (number place : ℕ) → (textAnswer rule report ≡ Refused number place) ↔ (outcome rule report room ≡ Refused number place)
+  text-refused-iff number place = (go (outcome rule report room) refl, text-refused)
+    where
+      go : (a : Answer) → outcome rule report room ≡ a → textAnswer rule report ≡ Refused number place → outcome rule report room ≡ Refused number place
+      go (Accepted n) o e = refused-not (sym e ∙ text-taken o)
+      go (Refused k p) o e = o ∙ sym (text-refused o) ∙ e
+
+  -- No refusal has number 0.
+  pub text-sound : Sound (textAnswer rule report)
+  unfolding textAnswer
+  text-sound = order-sound (outcome rule report room) _ (outcome-sound rule report room) (λ z. tt)
+
+  module _ {marks marks₁ : List ℕ} {r : Evaluation} (e : Evaluated rule report marks r marks₁) (long : length marks ≡ room) where
+    is : r ≡ evaluation rule report room
+    is = e .answer ∙ ap (evaluation rule report) long
+
+    -- The marking has refused, and nothing is put.
+    pub put-refused : (out : List ℕ) → (r .number ≡ 0 → ⊥)
+        → TakenPut rule report out (record { number = r .number; place = r .place; written = 0 }) out
+    unfolding evaluation
+    put-refused out n = go (outcome rule report room) refl
+      where
+        go : (a : Answer) → outcome rule report room ≡ a → TakenPut rule report out (record { number = r .number; place = r .place; written = 0 }) out
+        go (Accepted k) o = absurd (n (ap (λ (x : Evaluation). x .number) is ∙ ap numberOf o))
+        go (Refused number place) o =
+            record {
+              answer = rw (text-refused o, is, o);
+              bytes-are = rw (text-refused o) (sym (over-none out));
+            }
+
+    -- It has accepted, and the text is put.
+    pub put-taken : {out after : List ℕ} {n : ℕ} → r .number ≡ 0 → Rendered (acceptedPrintout rule report) out n after
+        → TakenPut rule report out (record { number = 0; place = 0; written = n }) after
+    put-taken z h =
+        let t = text-taken (both-taken rule report room (ap (λ (x : Evaluation). x .number) (sym is) ∙ z) .is) in
+        record {
+          answer = rw (t, h .length-is);
+          bytes-are = rw t (h .bytes-are);
+        }
+
+  -- An answer that takes them counts the bytes of their text.
+  pub text-counted : {n : ℕ} → textAnswer rule report ≡ Accepted n → n ≡ length (acceptedPrintout rule report)
+  unfolding textAnswer
+  text-counted {n} e = go (outcome rule report room) refl
+    where
+      go : (a : Answer) → outcome rule report room ≡ a → n ≡ length (acceptedPrintout rule report)
+      go (Accepted k) o = ap countOf (sym e ∙ text-taken o)
+      go (Refused k p) o = refused-not (sym (text-refused o) ∙ e)
+
+  -- There are 81,920 bytes at most.
+  pub text-few : {n : ℕ} → textAnswer rule report ≡ Accepted n → n ≤ bufferSize
+  unfolding acceptedPrintout meantWords evaluation
+  text-few {n} e = go (outcome rule report room) refl
+    where
+      go : (a : Answer) → outcome rule report room ≡ a → n ≤ bufferSize
+      go (Refused k p) o = refused-not (sym (text-refused o) ∙ e)
+      go (Accepted m) o =
+          let taken = both-taken rule report room (ap numberOf o) in
+          let same : length (labelsOf report) ≡ length (levelsOf report) = elements-count report ∙ sym (levels-elements report) in
+          let chosen = haveBit-few (pred (length (entriesOf rule))) (words (entriesOf rule) (levelsOf report) (labelsOf report)) in
+          omega (
+            arith,
+            text-counted e,
+            text-short (labelsOf report) (levelsOf report) (verdict (entriesOf rule) (levelsOf report) (labelsOf report)) (length (levelsOf report))
+                (selected (length (entriesOf rule)) (words (entriesOf rule) (levelsOf report) (labelsOf report))) (few report)
+                (omega (arith, chosen, words-length (entriesOf rule) (levelsOf report) (labelsOf report)))
+                (λ k h. (omega (arith, label-range report k (omega arith)), omega (arith, levels-legal report (taken .elements) (taken .report-taken) .low k h))),
+          )
+
+  -- What is printed, by that answer.
+  printed-text : printoutOfBoth rule report ≡ printed (textAnswer rule report) (acceptedPrintout rule report)
+  unfolding textAnswer printoutOfBoth
+  printed-text = go (outcome rule report room)
+    where
+      go : (a : Answer) → printed a (acceptedPrintout rule report) ≡ printed (inOrder a (Accepted (length (acceptedPrintout rule report)))) (acceptedPrintout rule report)
+      go (Accepted k) = refl
+      go (Refused k p) = refl
+
+  module _ {out mid : List ℕ} {r : Judgement} (p : TakenPut rule report out r mid) where
+    -- Number 0 says that they were taken, and another one why not.
+    pub judged-taken : r .number ≡ 0 → textAnswer rule report ≡ Accepted (r .written)
+    judged-taken z = go (textAnswer rule report) refl
+      where
+        go : (a : Answer) → textAnswer rule report ≡ a → textAnswer rule report ≡ Accepted (r .written)
+        go (Accepted n) e = rw (p .answer, e)
+        go (Refused k q) e = absurd (subst Accepts e (text-sound (ap (λ (x : Judgement). x .number) (sym (p .answer)) ∙ z)))
+
+    pub judged-refused : (r .number ≡ 0 → ⊥) → textAnswer rule report ≡ Refused (r .number) (r .place)
+    judged-refused n = go (textAnswer rule report) refl
+      where
+        go : (a : Answer) → textAnswer rule report ≡ a → textAnswer rule report ≡ Refused (r .number) (r .place)
+        go (Accepted k) e = absurd (n (ap (λ (x : Judgement). x .number) (p .answer) ∙ ap numberOf e))
+        go (Refused k q) e = rw (p .answer, e)
+
+    -- What is printed: the text that was put, or the refusal in its place.
+    pub printed-taken : r .number ≡ 0 → Rendered (printoutOfBoth rule report) out (r .written) mid
+    printed-taken z =
+        let t = judged-taken z in
+        let counted = text-counted t in
+        rw (printed-text, t) (record { length-is = counted; fits = omega (arith, counted, text-few t); bytes-are = p .bytes-are ∙ rw t })
+
+    pub printed-refused : {after : List ℕ} {n : ℕ} → (r .number ≡ 0 → ⊥) → Rendered (refusedLine (r .number) (r .place)) mid n after
+        → Rendered (printoutOfBoth rule report) out n after
+    printed-refused some h =
+        let t = judged-refused some in
+        let kept : mid ≡ out = p .bytes-are ∙ rw t (over-none out) in
+        rw (printed-text, t) (rw kept at h)
+
+  -- The promise leaves one answer and one content of the buffer.
+  pub put-taken-only : {out after after′ : List ℕ} {r r′ : Judgement} → TakenPut rule report out r after → TakenPut rule report out r′ after′
+      → (r ≡ r′) × (after ≡ after′)
+  put-taken-only p q = (p .answer ∙ sym (q .answer), p .bytes-are ∙ sym (q .bytes-are))
 
 -- ---- the bytes that are written
 

@@ -3,7 +3,7 @@ ghost use Prim.Native.Nat.{_≤_};
 ghost use lib.ListN.{length};
 ghost use Rattle.text.specs.Rendered.{Rendered};
 ghost use Rattle.judge.specs.Input.{ruleIn, reportIn};
-ghost use Rattle.judge.specs.Output.{printoutOfBoth, printoutOf};
+ghost use Rattle.judge.specs.Output.{TakenPut, printoutOfBoth, printoutOf};
 use crate::split::split;
 use marking::report::mark_report;
 use terms::limits::ELEMENTS_MOST;
@@ -11,9 +11,18 @@ use text::put::TEXT_BYTES;
 use text::render::put_accepted;
 use text::render::put_refused;
 
-// Puts the printout of a rule and a report. Both are read once, in columns that have room for any report.
-fn put_halves(rule: &[u8], report: &[u8], out: &mut [u8; TEXT_BYTES]) -> usize
-    ensures { λ r. ⌜ Rendered (printoutOfBoth (now (rule .entry)) (now (report .entry))) (now (out .entry)) r (now (out .exit)) ⌝ }
+// What is decided of a rule and a report: document 01's number and the place, and how many bytes of text
+// were put; none where they are refused.
+pub struct Judgement {
+    pub number: u32,
+    pub place: u32,
+    pub written: usize,
+}
+
+// Puts the text of a rule and a report where they are taken, and nothing where they are refused. Both
+// are read once, in columns that have room for any report.
+pub fn put_taken(rule: &[u8], report: &[u8], out: &mut [u8; TEXT_BYTES]) -> Judgement
+    ensures { λ r. ⌜ TakenPut (now (rule .entry)) (now (report .entry)) (now (out .entry)) r (now (out .exit)) ⌝ }
 {
     let mut labels = [0u16; ELEMENTS_MOST];
     let mut levels = [0u16; ELEMENTS_MOST];
@@ -30,16 +39,36 @@ fn put_halves(rule: &[u8], report: &[u8], out: &mut [u8; TEXT_BYTES]) -> usize
         &mut marks,
     );
     let r = marked.answer;
+    if r.number != 0 {
+        return Judgement {
+            number: r.number,
+            place: r.place,
+            written: 0,
+        };
+    }
+    let written = put_accepted(
+        out,
+        &labels,
+        &levels,
+        &marks,
+        r.elements as usize,
+        marked.entries - 1,
+        r.selected as usize,
+    );
+    Judgement {
+        number: 0,
+        place: 0,
+        written,
+    }
+}
+
+// Puts the printout of a rule and a report.
+fn put_halves(rule: &[u8], report: &[u8], out: &mut [u8; TEXT_BYTES]) -> usize
+    ensures { λ r. ⌜ Rendered (printoutOfBoth (now (rule .entry)) (now (report .entry))) (now (out .entry)) r (now (out .exit)) ⌝ }
+{
+    let r = put_taken(rule, report, out);
     if r.number == 0 {
-        put_accepted(
-            out,
-            &labels,
-            &levels,
-            &marks,
-            r.elements as usize,
-            marked.entries - 1,
-            r.selected as usize,
-        )
+        r.written
     } else {
         put_refused(out, r.number, r.place as usize)
     }

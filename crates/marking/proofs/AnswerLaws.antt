@@ -187,7 +187,7 @@ marked-evaluated rule report labels levels ups lefts marks enough m =
 -- ---- number 0
 
 -- No refusal has it.
-room-sound : (room : ℕ) (a : Answer) → Sound a → Sound (shortOfRoom room a)
+pub room-sound : (room : ℕ) (a : Answer) → Sound a → Sound (shortOfRoom room a)
 unfolding shortOfRoom
 room-sound room a s = order-sound a (cond (ltb room (countOf a)) (Refused 9 0) a) s (go (ltb room (countOf a)))
   where

@@ -23,7 +23,7 @@ use Rattle.rules.specs.Entries.{entriesOf}
 use Rattle.reports.specs.Elements.{labelsOf, levelsOf}
 use Rattle.numbers.specs.Lists.{over}
 
--- Row 9, after the report's own rows: there is room for fewer elements than it has.
+-- Row 9, after all rows of an answer: there is room for fewer (elements, or bytes of a text) than it counts.
 unfoldable pub shortOfRoom : (room : ℕ) → Answer → Answer
 shortOfRoom room a = inOrder a (cond (ltb room (countOf a)) (Refused 9 0) a)
 

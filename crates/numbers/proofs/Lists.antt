@@ -7,8 +7,8 @@ use native.Mathlib.Numerals.{add-one}
 use mathlib.Core.Path.{_≡_, refl, sym, ap, _∙_}
 use mathlib.Core.List.{List, [], _∷_, _++_, append-nil}
 use mathlib.Core.Logic.{⊎-elim}
-use lib.ListN.{length, getD, set, drop, length-append, List·getD-append, replicate, length-set, length-replicate, getD-replicate}
-use lib.Seq.{sets, length-sets, sets-eq, drop-length, getD-append-add, getD-drop, getD-at, ext-getD, getD-set-same, getD-set-other}
+use lib.ListN.{length, getD, set, take, drop, length-append, List·getD-append, replicate, length-set, length-replicate, getD-replicate}
+use lib.Seq.{sets, length-sets, sets-eq, length-take-le, take-suc, drop-length, getD-append-add, getD-drop, getD-at, ext-getD, getD-set-same, getD-set-other}
 use Rattle.numbers.specs.Lists.{listed, putAt, over}
 use native.Mathlib.Decide.{ℕ-discrete}
 use borrow.Author.Tests.{eq-eqb, ne-eqb}
@@ -107,6 +107,15 @@ over-past xs lent r i h =
 -- A lent list into which nothing is put is as it was.
 pub over-kept : (xs lent : List ℕ) → xs ≡ [] → lent ≡ over xs lent
 over-kept xs lent e = rw e (sym (over-none lent))
+
+-- ---- the first values of a list put over a lent list, one after the other
+
+-- One value more.
+pub copied-next : (from lent : List ℕ) {to : List ℕ} (i : ℕ) → i < length from → to ≡ over (take i from) lent
+    → set to i (getD from i 0) ≡ over (take (i + 1) from) lent
+copied-next from lent i h e =
+    rw e (over-next (take i from) lent (getD from i 0) i (length-take-le i from (omega arith)))
+    ∙ ap (λ (xs : List ℕ). over xs lent) (sym (ap (λ (k : ℕ). take k from) (add-one i) ∙ take-suc from i 0 h))
 
 -- ---- the values of a function put over a lent list, one after the other
 

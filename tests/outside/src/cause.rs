@@ -44,6 +44,9 @@ pub enum Cause {
     RuleBytes456,
     RuleRoomExact,
     RuleRoomMore,
+    PrintoutLongest,
+    PrintoutRoomExact,
+    PrintoutRoomMore,
 
     RuleEmpty,
     RuleLong,
@@ -86,6 +89,7 @@ pub enum Cause {
 
     RoomShort,
     RuleRoomShort,
+    PrintoutRoomShort,
 
     /// An entry of this kind looks ahead.
     LooksAhead(u16),
@@ -125,7 +129,7 @@ impl Cause {
             NoParentNoPrevious | ParentAlone | PreviousAlone | ParentAndPrevious => 0,
             DepthNow64 | ElementsNow4096 | VerdictTrue | VerdictFalse | ClosedInner | ClosedRoot | TallyToTheTop => 0,
             Has(_) | TextLooksBack | TextLooksAhead | TextSelectsSome | TextBytes448 | RuleBytes456 => 0,
-            RuleRoomExact | RuleRoomMore => 0,
+            RuleRoomExact | RuleRoomMore | PrintoutLongest | PrintoutRoomExact | PrintoutRoomMore => 0,
             RuleEmpty | RuleLong | InputEndsBeforeRule | InputEndsInsideRule => 1,
             RuleStray | RuleKind | RuleLength | RulePastEnd => 2,
             FirstIsOwn | FirstAboveOwn | SecondIsOwn | SecondAboveOwn | RuleLabelLow | RuleLabelHigh => 3,
@@ -135,7 +139,7 @@ impl Cause {
             ReportLabelLow | ReportLabelHigh | LabelOver16Bits => 6,
             ClosingNothing | ClosingAfterRoot | OpeningAfterRoot | EndOpen => 7,
             Level64 | Element4097 => 8,
-            RoomShort | RuleRoomShort => 9,
+            RoomShort | RuleRoomShort | PrintoutRoomShort => 9,
             LooksAhead(_) => 10,
             StateLength | DepthOver64 | DepthOverElements | ElementsOver4096 => 11,
             RootClosedOver1 | RootClosedWhileOpen | Byte6NotZero | Byte7NotZero => 11,
@@ -185,6 +189,9 @@ impl Cause {
             RuleBytes456 => "rule of 456 bytes written",
             RuleRoomExact => "as many bytes as the rule",
             RuleRoomMore => "more bytes than the rule",
+            PrintoutLongest => "text of 56,275 bytes",
+            PrintoutRoomExact => "as many bytes as the text",
+            PrintoutRoomMore => "more bytes than the text",
             RuleEmpty => "rule of 0 bytes",
             RuleLong => "rule over 512 bytes",
             InputEndsBeforeRule => "input under 2 bytes",
@@ -217,6 +224,7 @@ impl Cause {
             Element4097 => "a 4,097th element",
             RoomShort => "fewer words than elements",
             RuleRoomShort => "fewer bytes than the rule",
+            PrintoutRoomShort => "fewer bytes than the text",
             StateLength => "state of another length",
             DepthOver64 => "depth over 64",
             DepthOverElements => "depth over elements",

@@ -4,7 +4,7 @@
 use outside::cause::Reply;
 use outside::tally::Tally;
 use outside::whole::WholeReply;
-use outside::{one_pass, records, tally, typed, whole};
+use outside::{one_pass, program, records, tally, typed, whole};
 use std::slice;
 
 // What each caller owes: every pointer is valid for its length, and no two buffers overlap. NULL with length 0 is an
@@ -78,4 +78,17 @@ pub unsafe extern "C" fn pz_tally(tally: *mut Tally, verdict: u32) -> u32 {
 #[no_mangle]
 pub unsafe extern "C" fn pz_read_path(text: *const u8, text_len: usize, rule: *mut u8, rule_len: usize) -> Reply {
     typed::read_path(from_raw_parts(text, text_len), from_raw_parts_mut(rule, rule_len)).0
+}
+
+#[no_mangle]
+pub unsafe extern "C" fn pz_print(
+    rule: *const u8,
+    rule_len: usize,
+    report: *const u8,
+    report_len: usize,
+    text: *mut u8,
+    text_len: usize,
+) -> Reply {
+    let [rule, report] = [from_raw_parts(rule, rule_len), from_raw_parts(report, report_len)];
+    program::print(rule, report, from_raw_parts_mut(text, text_len)).0
 }

@@ -1,43 +1,11 @@
--- `put_halves` tells what the marking answers: its tables' text where it accepts, the refusal else. Assumes nothing.
-use Prim.Native.Nat.{ℕ}
-use mathlib.Core.Bool.{true, false}
-use lib.ListN.{length-replicate}
-use borrow.Author.Tests.{eq-eqb, ne-eqb}
-use Rattle.terms.specs.Limits.{elementsMost}
-use Rattle.judge.proofs.PrintoutLaws.{marked-told, accepted-with, accepted-rendered, both-rendered}
+-- `put_halves` tells the text that was put, or the refusal. Assumes nothing.
 use borrow.Author.Needs.{needs}
+use Rattle.judge.proofs.PrintoutLaws.{printed-taken, printed-refused}
 use Rattle.judge.proofs.judge.put_halves.Statement.{statement}
 use Rattle.judge.proofs.judge.put_halves.Tie as tie
 
-slice-aggregate-mark-report : tie.Need-slice-aggregate-mark-report
-slice-aggregate-mark-report c = search needs
-
-slice-aggregate-mark-report-2 : tie.Need-slice-aggregate-mark-report-2
-slice-aggregate-mark-report-2 c = search needs
-
-slice-aggregate-mark-report-3 : tie.Need-slice-aggregate-mark-report-3
-slice-aggregate-mark-report-3 c = search needs
-
-slice-aggregate-mark-report-4 : tie.Need-slice-aggregate-mark-report-4
-slice-aggregate-mark-report-4 c = search needs
-
-slice-aggregate-mark-report-5 : tie.Need-slice-aggregate-mark-report-5
-slice-aggregate-mark-report-5 c = search needs
-
-mark-report-requires : tie.Need-mark-report-requires
-mark-report-requires c κs = search needs
-
-cast-put-accepted : tie.Need-cast-put-accepted
-cast-put-accepted c = search needs
-
-sub-put-accepted : tie.Need-sub-put-accepted
-sub-put-accepted c = let l = length-replicate {A = ℕ} elementsMost 0 in accepted-with _ _ _ _ _ _ _ l l l l (c .before .before .before .before .before .before .before .before .before .before .before .before .before .before .mark-report .ensures) (search needs) .some-entry
-
-cast-put-accepted-2 : tie.Need-cast-put-accepted-2
-cast-put-accepted-2 c = search needs
-
-put-accepted-requires : tie.Need-put-accepted-requires
-put-accepted-requires c κs = search needs
+put-taken-requires : tie.Need-put-taken-requires
+put-taken-requires c κs = search needs
 
 cast-put-refused : tie.Need-cast-put-refused
 cast-put-refused c = search needs
@@ -46,35 +14,11 @@ put-refused-requires : tie.Need-put-refused-requires
 put-refused-requires c κs = search needs
 
 returns : tie.Need-returns
-returns c =
-    let l = length-replicate {A = ℕ} elementsMost 0 in
-    let m = c .before .before .before .before .before .before .before .before .before .before .before .before .before .before .before .before .mark-report in
-    let a = accepted-with _ _ _ _ _ _ _ l l l l (m .ensures) (search needs) in
-    both-rendered _ _ _ _ _ _ _ _ (marked-told _ _ _ _ _ _ _ l l l l (m .ensures)) (search needs) true
-    (eq-eqb (m .result .answer .number) 0 (search needs)) (accepted-rendered _ _ _ _ _ _ _ _ a (c .put-accepted .ensures))
+returns c = printed-taken _ _ (c .before .before .put-taken .ensures) (search needs)
 
 returns-2 : tie.Need-returns-2
-returns-2 c =
-    let l = length-replicate {A = ℕ} elementsMost 0 in
-    let m = c .before .before .before .before .before .before .before .before .before .before .before .mark-report in
-    both-rendered _ _ _ _ _ _ _ _ (marked-told _ _ _ _ _ _ _ l l l l (m .ensures)) (search needs) false
-    (ne-eqb (m .result .answer .number) 0 (search needs)) (c .put-refused .ensures)
+returns-2 c = printed-refused _ _ (c .before .before .before .before .before .put-taken .ensures) (search needs) (c .put-refused .ensures)
 
 pub put-halves-spec : {M : Type 1} → statement M
 put-halves-spec =
-    tie.close
-    (tie.spec
-    slice-aggregate-mark-report
-    slice-aggregate-mark-report-2
-    slice-aggregate-mark-report-3
-    slice-aggregate-mark-report-4
-    slice-aggregate-mark-report-5
-    mark-report-requires
-    cast-put-accepted
-    sub-put-accepted
-    cast-put-accepted-2
-    put-accepted-requires
-    cast-put-refused
-    put-refused-requires
-    returns
-    returns-2)
+    tie.close (tie.spec put-taken-requires cast-put-refused put-refused-requires returns returns-2)

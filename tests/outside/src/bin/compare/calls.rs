@@ -13,6 +13,7 @@ pub enum Call {
     Close,
     Tally,
     ReadPath,
+    Print,
     Program,
 }
 
@@ -109,6 +110,7 @@ impl Call {
             Call::Close => "pz_close",
             Call::Tally => "pz_tally",
             Call::ReadPath => "pz_read_path",
+            Call::Print => "pz_print",
             Call::Program => "program",
         }
     }
@@ -139,6 +141,11 @@ impl Call {
             Call::ReadPath => {
                 let forms: Vec<Cause> = Form::all().into_iter().map(Has).collect();
                 [TEXT_ACCEPTED, &forms, TEXT_REFUSED].concat()
+            }
+            Call::Print => {
+                let rooms = [PrintoutLongest, PrintoutRoomExact, PrintoutRoomMore];
+                let accepted = [&[Accepted], REPORT_ACCEPTED, &rooms].concat();
+                [&accepted[..], RULE_REFUSED, REPORT_REFUSED, &[PrintoutRoomShort]].concat()
             }
             Call::Program => {
                 let input = [InputEndsBeforeRule, InputEndsInsideRule];

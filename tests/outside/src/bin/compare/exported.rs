@@ -22,6 +22,14 @@ mod c {
         pub fn pz_close(rule: *const u8, rule_len: usize, state: *mut u8, state_len: usize) -> Reply;
         pub fn pz_tally(tally: *mut outside::tally::Tally, verdict: u32) -> u32;
         pub fn pz_read_path(text: *const u8, text_len: usize, rule: *mut u8, rule_len: usize) -> Reply;
+        pub fn pz_print(
+            rule: *const u8,
+            rule_len: usize,
+            report: *const u8,
+            report_len: usize,
+            text: *mut u8,
+            text_len: usize,
+        ) -> Reply;
     }
 }
 
@@ -60,4 +68,9 @@ pub fn tally(tally: &mut Lent<u32>, verdict: u32) -> u32 {
 
 pub fn read_path(text: &Lent<u8>, rule: &mut Lent<u8>) -> Reply {
     unsafe { c::pz_read_path(text.pointer(), text.len(), rule.pointer_mut(), rule.len()) }
+}
+
+pub fn print(rule: &Lent<u8>, report: &Lent<u8>, text: &mut Lent<u8>) -> Reply {
+    let bytes = text.len();
+    unsafe { c::pz_print(rule.pointer(), rule.len(), report.pointer(), report.len(), text.pointer_mut(), bytes) }
 }

@@ -7,13 +7,13 @@
 //! the 8 bytes "pzkept 1"
 //! for each call:
 //!   function      1 pz_read_rule, 2 pz_read_report, 3 pz_evaluate, 4 pz_start, 5 pz_open, 6 pz_close, 7 pz_tally,
-//!                 8 pz_read_path
+//!                 8 pz_read_path, 9 pz_print
 //!   argument      the label of pz_open, the verdict of pz_tally; else 0
 //!   answer        four words, in the order of the reply's fields; 0 where it has fewer
 //!   rule          a string, for pz_read_path the text; empty where the function takes none
 //!   report        a string; empty where the function takes none
-//!   buffer        a string: what is lent to be written, as it is before the call (marks, state, tally or room for a
-//!                 rule, as it lies in memory); empty where the function takes none
+//!   buffer        a string: what is lent to be written, as it is before the call (marks, state, tally, room for a
+//!                 rule or for a text, as it lies in memory); empty where the function takes none
 //!   changes       how many stretches of the buffer differ after the call, then for each its offset and its bytes
 //!                 as a string; every other byte of the buffer stays
 //! the word 0, and how many calls there were
@@ -98,6 +98,7 @@ impl Keeper {
             Call::Close => 6,
             Call::Tally => 7,
             Call::ReadPath => 8,
+            Call::Print => 9,
             Call::Program => unreachable!("the program is no exported function"),
         };
         let file = &mut self.file;

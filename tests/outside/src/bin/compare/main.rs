@@ -45,6 +45,7 @@ const FAMILIES: &[Family] = &[
     readers::report_input,
     whole::input,
     whole::input,
+    whole::print_input,
     one_pass::walk_input,
     one_pass::state_input,
     one_pass::state_input,
@@ -56,7 +57,7 @@ const FAMILIES: &[Family] = &[
 /// The calls that are compared.
 fn calls(with_program: bool) -> Vec<Call> {
     let mut calls = vec![Call::ReadRule, Call::ReadReport, Call::Evaluate, Call::Start, Call::Open, Call::Close];
-    calls.extend([Call::Tally, Call::ReadPath]);
+    calls.extend([Call::Tally, Call::ReadPath, Call::Print]);
     if with_program {
         calls.push(Call::Program);
     }
@@ -83,11 +84,14 @@ fn fixed_whole_reports(run: &mut Run, random: &mut Random) {
     for rule in edges::rules() {
         whole::compare_with(run, random, &rule, &sample, 6);
         whole::compare_with(run, random, &rule, &sample, 5);
+        whole::compare_print_with(run, random, &rule, &sample, whole::TEXT_ROOM);
     }
     for rule in edges::rules_by_number() {
         for report in edges::reports() {
             whole::compare_with(run, random, &rule, &report, 4_096);
             whole::compare_with(run, random, &rule, &report, 0);
+            whole::compare_print_with(run, random, &rule, &report, whole::TEXT_ROOM);
+            whole::compare_print_with(run, random, &rule, &report, 0);
         }
     }
 }

@@ -1,7 +1,8 @@
 //! Whole reports that every run has beside the samples: rules that part each kind from what is easily taken for it,
-//! every kind on one element, ways as deep as a report goes, 4,096 elements, and buffers of all rooms.
+//! every kind on one element, ways as deep as a report goes, 4,096 elements, and buffers of all rooms; their texts, and the
+//! longest one.
 
-use super::compare_with;
+use super::{compare_print_with, compare_with, TEXT_ROOM};
 use crate::edges::{entry, label, sample_report, sample_rules, TRUE};
 use crate::inputs::report_bytes;
 use crate::random::Random;
@@ -28,6 +29,27 @@ pub fn fixed_inputs(run: &mut Run, random: &mut Random) {
     for words in [4_095, 4_097, 4_100] {
         compare_with(run, random, &rule_bytes(&mixed()), &broad(), words);
     }
+    fixed_texts(run, random);
+}
+
+fn fixed_texts(run: &mut Run, random: &mut Random) {
+    let sample = sample_report();
+    for bytes in [0, 1, 28, 29, 30, 92, 93, 94, 95, 96, 97, 98, 99, 100, TEXT_ROOM] {
+        compare_print_with(run, random, &sample_rules()[0], &sample, bytes);
+    }
+    for report in small_reports() {
+        for rule in [vec![TRUE], vec![TRUE, label(1)], vec![TRUE, entry(7, 0, 0)]] {
+            compare_print_with(run, random, &rule_bytes(&rule), &report, TEXT_ROOM);
+        }
+    }
+    for bytes in [56_274, 56_275, 56_276, TEXT_ROOM] {
+        compare_print_with(run, random, &rule_bytes(&[TRUE]), &longest(), bytes);
+    }
+}
+
+/// The report with the longest text: three digits for every label, and two for every level but ten.
+fn longest() -> Vec<u8> {
+    report_bytes(&[&[Open(999); 10][..], &[Open(100), Close].repeat(4_086)[..], &[Close; 10]].concat())
 }
 
 /// The sample, three siblings, cousins, one element, and reports of 64 levels.
