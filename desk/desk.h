@@ -1,8 +1,8 @@
 /* desk.h: what the files of polonezar-desk share.
  *
- * The tool decides nothing. Every verdict, number, place and printed record comes from a call of the library, and what the
- * library tests is not tested again: files are lent to it as they are. Only files that fail, words for labels and the
- * command line are the tool's own affair. */
+ * The tool decides nothing. Every verdict, number, place and printed record comes from a call of the library, and what
+ * the library tests is not tested again: files are lent to it as they are. Only files that fail, words for labels and
+ * the command line are the tool's own affair. */
 #ifndef DESK_H
 #define DESK_H
 
@@ -20,8 +20,9 @@ enum status worse(enum status a, enum status b);
 /* Says something; `about` is a file's name or what else is meant, NULL for nothing. */
 void say(const char *about, const char *format, ...) __attribute__((format(printf, 2, 3)));
 
-/* Says what could not be done with a file, and why (errno); gives CANNOT. */
-enum status cannot(const char *what, const char *name);
+/* Says that a file could not be read or written, why (errno), and what to do; gives CANNOT. */
+enum status cannot_read(const char *name);
+enum status cannot_write(const char *name);
 
 /* Says what a refusal means, where, and what to do; gives SOME_REFUSED. */
 enum status refused(const char *about, uint32_t number, uint32_t place);
@@ -82,11 +83,12 @@ struct typed {
     size_t len;
     uint8_t plain[PZ_TEXT_BYTES + 1];                   /* one byte more than is accepted is enough to be refused */
     size_t plain_len;
-    size_t from[PZ_TEXT_BYTES + 2];                     /* where in `text` each byte of `plain`, and its end, come from */
+    size_t from[PZ_TEXT_BYTES + 2];                     /* where in `text` each byte of `plain`, and its end, stand */
 };
 
 struct rule {
     const char *about;                                  /* what is at fault where it is refused */
+    bool no_file;                                       /* it is taken as text because no file has that name */
     uint8_t bytes[PZ_RULE_BYTES + 1];
     size_t len;
     struct typed typed;

@@ -35,7 +35,7 @@ enum status may_write(const char *name, bool replace)
 {
     struct stat found;
     if (lstat(name, &found) != 0)
-        return errno == ENOENT ? ALL_ACCEPTED : cannot("write", name);
+        return errno == ENOENT ? ALL_ACCEPTED : cannot_write(name);
     if (!S_ISREG(found.st_mode))
         say(name, "exists and is no plain file; nothing is written there: give -o another name");
     else if (!replace)
@@ -92,7 +92,7 @@ static enum status write_beside(const char *name, char *beside, const void *from
     int why, file = mkostemp(beside, O_CLOEXEC);
     bool good;
     if (file < 0)
-        return cannot("write", name);
+        return cannot_write(name);
     good = write_all(file, from, len);
     why = errno;
     if (close(file) != 0 && good) {
@@ -104,7 +104,7 @@ static enum status write_beside(const char *name, char *beside, const void *from
     why = good ? errno : why;
     unlink(beside);
     errno = why;
-    return cannot("write", name);
+    return cannot_write(name);
 }
 
 enum status write_file(const char *name, const void *from, size_t len, bool replace)
@@ -115,7 +115,7 @@ enum status write_file(const char *name, const void *from, size_t len, bool repl
         return status;
     beside = beside_of(name);
     if (beside == NULL)
-        return cannot("write", name);
+        return cannot_write(name);
     status = write_beside(name, beside, from, len, replace);
     free(beside);
     return status;

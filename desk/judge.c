@@ -1,5 +1,5 @@
-/* judge.c: the record of each report, as pz_print wrote it. Of several reports each has its heading, and a last line adds
- * up what the records say. */
+/* judge.c: the record of each report, as pz_print wrote it. Of several reports each has its heading, and a last line
+ * adds up what the records say. */
 #define _POSIX_C_SOURCE 200809L
 #include "desk.h"
 #include <errno.h>
@@ -77,7 +77,7 @@ static enum status judge_one(struct judging *j, const char *name)
             printf("not read: %s\n", strerror(why));
         clear_progress(j);
         errno = why;
-        return cannot("read", name);
+        return cannot_read(name);
     }
     w = pz_print(j->rule.bytes, j->rule.len, report, len, text, sizeof text);
     if (w.number != PZ_ACCEPTED) {
@@ -96,8 +96,8 @@ static enum status judge_one(struct judging *j, const char *name)
 static enum status print_sum(struct judging *j, int reports)
 {
     const struct pz_counts *t = &j->tally;
-    printf("\nreports %d, refused %lu, not read %lu; elements seen %u, selected %u, passed over %u\n", reports, j->refused,
-           j->unread, (unsigned)t->seen, (unsigned)t->selected, (unsigned)t->passed_over);
+    printf("\nreports %d, refused %lu, not read %lu; elements seen %u, selected %u, passed over %u\n", reports,
+           j->refused, j->unread, (unsigned)t->seen, (unsigned)t->selected, (unsigned)t->passed_over);
     return j->uncounted == PZ_ACCEPTED ? ALL_ACCEPTED : refused("the sum", j->uncounted, 0);
 }
 

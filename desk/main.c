@@ -1,5 +1,5 @@
-/* main.c: polonezar-desk, Polonezar for the desk and for engineers in the field: the commands, their options, and the exit
- * status. polonezar-desk.1 is its manual page. */
+/* main.c: polonezar-desk, Polonezar for the desk and for engineers in the field: the commands, their options, and the
+ * exit status. polonezar-desk.1 is its manual page. */
 #define _GNU_SOURCE                             /* getopt_long */
 #include "desk.h"
 #include <fcntl.h>

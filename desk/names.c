@@ -119,10 +119,10 @@ static const char *take_line(struct names *names, const char *line, size_t len)
         digits++;
     between = blanks(line + at + digits, len - at - digits);
     if (digits == 0 || between == 0)
-        return "expected a label in digits, a blank, and a word";
+        return "expected a label in digits, a blank, and a word, as in `20 alarm`";
     label = label_from(line + at, digits);
     if (label == 0)
-        return "the label is not one of 1 to 999, in digits, the first not 0";
+        return "the label is not one of 1 to 999, in digits, the first not 0; correct it";
     at += digits + between;
     word = word_length(line + at, len - at);
     if (word == 0)
@@ -139,7 +139,8 @@ static enum status take_lines(struct names *names, const char *text, size_t len)
     for (; at < len; line++) {
         const char *end = memchr(text + at, '\n', len - at), *wrong;
         size_t here = end == NULL ? len - at : (size_t)(end - (text + at));
-        wrong = end == NULL ? "the line is cut off: its line feed is missing" : take_line(names, text + at, here);
+        wrong = end != NULL ? take_line(names, text + at, here)
+                            : "the line is cut off: see that the file is whole and that a line feed ends it";
         if (wrong != NULL) {
             say(names->file, "line %lu: %s", line, wrong);
             return SOME_REFUSED;
@@ -158,9 +159,9 @@ enum status read_names(struct names *names, const char *file)
     if (file == NULL)
         return ALL_ACCEPTED;
     if (read_file(file, text, sizeof text, &len) != ALL_ACCEPTED)
-        return cannot("read", file);
+        return cannot_read(file);
     if (len > NAMES_BYTES) {
-        say(file, "has more than %d bytes and is no file with a label and a word on each line", NAMES_BYTES);
+        say(file, "has more than 65,536 bytes, and is no file with a label and a word on each line");
         return SOME_REFUSED;
     }
     return take_lines(names, (const char *)text, len);

@@ -9,18 +9,20 @@ static const char style[] =
     "body{font:16px/1.4 sans-serif;color:#000;background:#fff;margin:1.5em}\n"
     "h1{font-size:1.4em;overflow-wrap:anywhere}h2{font-size:1.1em}\n"
     "pre{font-size:1.05em;white-space:pre-wrap;overflow-wrap:anywhere;border:1px solid #888;padding:.5em}\n"
-    "table{border-collapse:collapse}th,td{border:1px solid #888;padding:.15em .5em;text-align:left;vertical-align:top}\n"
+    "table{border-collapse:collapse}\n"
+    "th,td{border:1px solid #888;padding:.15em .5em;text-align:left;vertical-align:top}\n"
     "tr{break-inside:avoid}\n"
     ".key svg{vertical-align:middle}\n"
     ".bar{position:sticky;top:0;background:#fff;border-bottom:1px solid #888;padding:.4em 0}\n"
-    ".bar button{font:inherit;min-width:2.2em;margin:.1em;background:#fff;color:#000;border:1px solid #000;border-radius:.3em}\n"
+    ".bar button{font:inherit;min-width:2.2em;margin:.1em;border:1px solid #000;border-radius:.3em}\n"
+    ".bar button{background:#fff;color:#000}\n"
     ".bar button[aria-pressed=true]{background:#000;color:#fff}\n"
     ".tree{overflow-x:auto}.tree svg{display:block;break-inside:avoid}\n"
     ".shown .frame{visibility:visible}\n"
     "@media screen{.tree svg{content-visibility:auto}}\n"
     "@media print{body{margin:0}.bar{display:none}.tree{overflow:visible}.tree svg{max-width:100%;height:auto}}\n";
 
-/* Sees in each element's word whether the pressed button's entry holds there; pressing it again takes the frames away. */
+/* Sees in each element's word whether the pressed button's entry holds there; pressed again, it hides the frames. */
 static const char script[] =
     "(function () {\n"
     "  var bar = document.querySelector('.bar'), said = document.querySelector('.said');\n"
@@ -63,8 +65,8 @@ static void put_text(struct page *p, const char *text)
 static void put_head(struct page *p, const struct judged *j)
 {
     put(p, "<!DOCTYPE html>\n<html lang=\"en\">\n<head>\n<meta charset=\"utf-8\">\n"
-        "<meta name=\"viewport\" content=\"width=device-width\">\n<title>selected %u of %u: ", (unsigned)j->reply.selected,
-        (unsigned)j->reply.elements);
+        "<meta name=\"viewport\" content=\"width=device-width\">\n<title>selected %u of %u: ",
+        (unsigned)j->reply.selected, (unsigned)j->reply.elements);
     put_text(p, j->report.name);
     put(p, "</title>\n<style>\n%s</style>\n</head>\n<body>\n<h1>Report ", style);
     put_text(p, j->report.name);
@@ -152,7 +154,7 @@ static enum status evaluate(struct judged *j, const char *name)
     struct report *r = &j->report;
     r->name = name;
     if (read_file(name, r->bytes, sizeof r->bytes, &r->len) != ALL_ACCEPTED)
-        return cannot("read", name);
+        return cannot_read(name);
     j->reply = pz_evaluate(j->rule.bytes, j->rule.len, r->bytes, r->len, j->marks, PZ_REPORT_ELEMENTS);
     if (j->reply.number != PZ_ACCEPTED) {
         printf("refused %u at %u\n", (unsigned)j->reply.number, (unsigned)j->reply.place);

@@ -24,7 +24,7 @@ enum status read_report(struct report *r, const char *name)
     struct pz_report_reply reply;
     r->name = name;
     if (read_file(name, r->bytes, sizeof r->bytes, &r->len) != ALL_ACCEPTED)
-        return cannot("read", name);
+        return cannot_read(name);
     reply = pz_read_report(r->bytes, r->len);
     if (reply.number != PZ_ACCEPTED) {
         printf("refused %u at %u\n", (unsigned)reply.number, (unsigned)reply.place);

@@ -21,7 +21,7 @@ static enum status get_text_file(struct rule *rule, const char *file, const stru
     static uint8_t text[TYPED_BYTES];
     size_t len;
     if (read_file(file, text, sizeof text, &len) != ALL_ACCEPTED)
-        return cannot("read", file);
+        return cannot_read(file);
     rule->about = file;
     rule->typed.text = (const char *)text;
     rule->typed.len = without_line_end(text, len);
@@ -32,17 +32,19 @@ enum status get_rule(struct rule *rule, const char *given, const char *text_file
 {
     struct stat found;
     rule->typed.text = NULL;
+    rule->no_file = false;
     if (text_file != NULL)
         return get_text_file(rule, text_file, names);
     if (stat(given, &found) == 0) {
         rule->about = given;
         if (read_file(given, rule->bytes, sizeof rule->bytes, &rule->len) != ALL_ACCEPTED)
-            return cannot("read", given);
+            return cannot_read(given);
         return ALL_ACCEPTED;
     }
     if (errno != ENOENT && errno != ENOTDIR && errno != ENAMETOOLONG)
-        return cannot("read", given);
-    rule->about = "the rule's text (no file has that name)";
+        return cannot_read(given);
+    rule->about = "the rule's text";
+    rule->no_file = true;
     rule->typed.text = given;
     rule->typed.len = strlen(given);
     return read_typed(rule, names);

@@ -37,14 +37,24 @@ void say(const char *about, const char *format, ...)
     va_end(given);
 }
 
-enum status cannot(const char *what, const char *name)
+static enum status cannot(const char *what, const char *name, const char *todo)
 {
     int why = errno;
     begin(NULL);
     fprintf(stderr, "cannot %s ", what);
     put_name(stderr, name);
-    fprintf(stderr, ": %s\n", strerror(why));
+    fprintf(stderr, ": %s\n    %s\n", strerror(why), todo);
     return CANNOT;
+}
+
+enum status cannot_read(const char *name)
+{
+    return cannot("read", name, "see that the name is right, and that it is a file which you may read");
+}
+
+enum status cannot_write(const char *name)
+{
+    return cannot("write", name, "all is as it was; see that its folder is there and has room, and that you may write");
 }
 
 /* Prints a text of the table, where P stands for the place. */
@@ -96,5 +106,5 @@ enum status printed(void)
 {
     if (fflush(stdout) == 0 && !ferror(stdout))
         return ALL_ACCEPTED;
-    return cannot("write", "what was to be printed");
+    return cannot("write", "what was to be printed", "it is not whole, and nothing may be decided by it; make room");
 }

@@ -1,6 +1,6 @@
-/* tree.c: the drawing of a report's tree: a row for each element, further in by its level, and a line from each parent to
- * its children. A selected element has a filled diamond and the word, any other an empty ring, so that nobody has to see
- * colours. The rows stand in strips, so that a page can be parted for printing and a browser draws only what is seen. */
+/* tree.c: the drawing of a report's tree: a row for each element, further in by its level, and a line from each parent
+ * to its children. A selected element has a filled diamond and the word, any other an empty ring, so that nobody has to
+ * see colours. The rows stand in strips, so that paper can part them and a browser draws only what is seen. */
 #include "page.h"
 #include <inttypes.h>
 #include <string.h>
@@ -99,10 +99,10 @@ static void draw_element(struct page *p, const struct drawing *d, uint32_t i, in
     struct shown label = shown_label(d->names, e->label);
     bool selected = is_selected(d, i);
     int x = x_of(d, i);
-    put(p, "<g class=\"element\" data-marks=\"%" PRIx64 "\"><title>element %u, label %u, level %u, %s</title>", d->marks[i],
-        (unsigned)i, (unsigned)e->label, (unsigned)e->level, selected ? "selected" : "passed over");
-    put(p, "<rect class=\"frame\" x=\"%d\" y=\"%d\" width=\"%d\" height=\"%d\" rx=\"4\" fill=\"#fff3c4\" stroke=\"#000\" "
-        "stroke-dasharray=\"4 2\" visibility=\"hidden\"/>", x - SIGN - 4, y - ROW / 2 + 1,
+    put(p, "<g class=\"element\" data-marks=\"%" PRIx64 "\"><title>element %u, label %u, level %u, %s</title>",
+        d->marks[i], (unsigned)i, (unsigned)e->label, (unsigned)e->level, selected ? "selected" : "passed over");
+    put(p, "<rect class=\"frame\" x=\"%d\" y=\"%d\" width=\"%d\" height=\"%d\" rx=\"4\" fill=\"#fff3c4\" "
+        "stroke=\"#000\" stroke-dasharray=\"4 2\" visibility=\"hidden\"/>", x - SIGN - 4, y - ROW / 2 + 1,
         SIGN + 4 + LEFT + GLYPH * (int)(strlen(label.text) + (selected ? 14 : 5)), ROW - 2);
     if (selected)
         draw_selected(p, x, y);
@@ -123,7 +123,8 @@ static void draw_strip(struct page *p, const struct drawing *d, uint32_t first, 
     put(p, "</svg>\n");
 }
 
-void draw_tree(struct page *p, const struct report *report, const struct names *names, const uint64_t *marks, size_t last)
+void draw_tree(struct page *p, const struct report *report, const struct names *names, const uint64_t *marks,
+               size_t last)
 {
     static struct drawing d;
     d.report = report;

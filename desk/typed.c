@@ -15,7 +15,7 @@ static bool behind_label(const char *text, size_t at)
         && (at == n || word_length(text + at - n - 1, 1) == 0);
 }
 
-/* Adds bytes that come from one place of the text; those past the room are left out, since the text is too long then. */
+/* Adds bytes that come from one place of the text; those past the room are left out: the text is too long then. */
 static void add_plain(struct typed *t, const char *bytes, size_t len, size_t from)
 {
     for (size_t i = 0; i < len && t->plain_len < sizeof t->plain; i++) {
@@ -69,6 +69,12 @@ static bool complete(const struct typed *t, size_t place)
     return place > 0 && pz_read_path(t->plain, place, NULL, 0).number != PZ_TEXT_BAD;
 }
 
+/* Whether a word for a label ends at a place: there its number could have more digits, but the word has none. */
+static bool behind_word(const struct typed *t, size_t place)
+{
+    return place > 0 && (uint8_t)t->text[t->from[place - 1]] != t->plain[place - 1];
+}
+
 struct choices {
     char names[32][64];
     size_t count;
@@ -91,9 +97,10 @@ static struct choices choices_at(const struct typed *t, size_t place, const stru
             add(&c, "`", words_and_signs[i], "`");
     if (goes_on(t, place, " "))
         add(&c, "", "a space", "");
-    if (goes_on(t, place, "0"))
-        add(&c, "", "a digit", "");
-    else if (goes_on(t, place, "1")) {
+    if (goes_on(t, place, "0")) {
+        if (!behind_word(t, place))
+            add(&c, "", "a digit", "");
+    } else if (goes_on(t, place, "1")) {
         add(&c, "", "a digit from 1 to 9", "");
         if (names->file != NULL)
             add(&c, "", "a word of the names file", "");
@@ -162,22 +169,24 @@ static void mark_fault(const struct typed *t, size_t place, bool all)
     show_text(stderr, t, place, marks);
 }
 
-static enum status say_refused(const struct rule *rule, struct pz_written_reply w, const struct names *names)
+/* The whole text is meant. */
+static void say_whole(const struct rule *rule, uint32_t number)
 {
     const struct typed *t = &rule->typed;
-    bool size = t->plain_len == 0 || t->plain_len > PZ_TEXT_BYTES;
+    if (t->plain_len == 0)
+        say(rule->about, "refused %u: it is empty; type a rule, such as `label 20`", (unsigned)number);
+    else if (t->plain_len > PZ_TEXT_BYTES)
+        say(rule->about, "refused %u: it has more than 1,024 bytes; type the rule shorter", (unsigned)number);
+    else
+        refused(rule->about, number, 0);
+    if (t->len > 0)
+        mark_fault(t, 0, true);
+}
+
+static void say_at(const struct rule *rule, struct pz_written_reply w, const struct names *names)
+{
+    const struct typed *t = &rule->typed;
     size_t place = t->from[w.place];
-    if (size && t->len == 0)
-        say(rule->about, "refused %u: it is empty; type a rule, such as `label 20`", (unsigned)w.number);
-    else if (size)
-        say(rule->about, "refused %u: it has more than %d bytes; type the rule shorter", (unsigned)w.number, PZ_TEXT_BYTES);
-    else if (w.number != PZ_TEXT_BAD)
-        refused(rule->about, w.number, 0);
-    if (size || w.number != PZ_TEXT_BAD) {
-        if (t->len > 0)
-            mark_fault(t, 0, true);
-        return SOME_REFUSED;
-    }
     fflush(stdout);
     fprintf(stderr, "polonezar-desk: ");
     put_name(stderr, rule->about);
@@ -186,6 +195,23 @@ static enum status say_refused(const struct rule *rule, struct pz_written_reply 
     say_expected(t, w.place, names);
     mark_fault(t, place, false);
     say_what_to_do(w.number, (uint32_t)place);
+}
+
+/* What has no sign of a rule in it may have been meant as a file's name. */
+static bool like_a_name(const struct rule *rule)
+{
+    return rule->no_file && rule->typed.len > 0 && strpbrk(rule->typed.text, " <(") == NULL;
+}
+
+static enum status say_refused(const struct rule *rule, struct pz_written_reply w, const struct names *names)
+{
+    size_t len = rule->typed.plain_len;
+    if (w.number != PZ_TEXT_BAD || len == 0 || len > PZ_TEXT_BYTES)
+        say_whole(rule, w.number);
+    else
+        say_at(rule, w, names);
+    if (like_a_name(rule))
+        fprintf(stderr, "    (it was read as a rule's text, since no file has that name)\n");
     return SOME_REFUSED;
 }
 
