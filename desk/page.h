@@ -15,8 +15,8 @@ void put(struct page *page, const char *format, ...) __attribute__((format(print
 /* Puts a text so that a browser shows it as it is. */
 void put_escaped(struct page *page, const char *text, size_t len);
 
-/* Draws the tree of a report in strips, each an SVG that stands by itself. `marks` are the words that pz_evaluate
- * wrote, and `last` is the entry that decides. */
+/* Draws the tree of a report in strips, each an SVG that stands by itself, so that paper can part them. `marks` are
+ * the words that pz_evaluate wrote, and `last` is the entry that decides. */
 void draw_tree(struct page *page, const struct report *report, const struct names *names, const uint64_t *marks,
                size_t last);
 

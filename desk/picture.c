@@ -20,7 +20,8 @@ static const char style[] =
     ".tree{overflow-x:auto}.tree svg{display:block;break-inside:avoid}\n"
     ".shown .frame{visibility:visible}\n"
     "@media screen{.tree svg{content-visibility:auto}}\n"
-    "@media print{body{margin:0}.bar{display:none}.tree{overflow:visible}.tree svg{max-width:100%;height:auto}}\n";
+    "@media print{body{margin:0}.bar{display:none}.tree{overflow:visible}.tree.narrow{columns:2}\n"
+    ".tree svg{max-width:100%;height:auto}}\n";
 
 /* Sees in each element's word whether the pressed button's entry holds there; pressed again, it hides the frames. */
 static const char script[] =
@@ -143,9 +144,8 @@ static void put_page(struct page *p, const struct judged *j)
     put(p, "<h2>Tree</h2>\n");
     put_key(p);
     put_buttons(p, j);
-    put(p, "<div class=\"tree\">\n");
     draw_tree(p, &j->report, &j->names, j->marks, j->table.count - 1);
-    put(p, "</div>\n<script>\n%s</script>\n</body>\n</html>\n", script);
+    put(p, "<script>\n%s</script>\n</body>\n</html>\n", script);
 }
 
 /* Lends rule and report to the library; a refusal has its line, as the record has it. */

@@ -5,7 +5,7 @@
 #include <inttypes.h>
 #include <string.h>
 
-enum { ROW = 24, ROWS = 32, LEFT = 16, SIGN = 7, GLYPH = 8 };
+enum { ROW = 24, ROWS = 8, LEFT = 16, SIGN = 7, GLYPH = 8, NARROW = 320 };
 
 static const char line_colour[] = "#888", sign_colour[] = "#0b4f9e";
 
@@ -133,6 +133,8 @@ void draw_tree(struct page *p, const struct report *report, const struct names *
     d.last = last;
     find_neighbours(&d);
     measure(&d);
+    put(p, "<div class=\"tree%s\">\n", d.width <= NARROW ? " narrow" : "");
     for (uint32_t first = 0; first < report->count; first += ROWS)
         draw_strip(p, &d, first, first + ROWS < report->count ? first + ROWS : report->count);
+    put(p, "</div>\n");
 }
