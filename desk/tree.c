@@ -116,7 +116,7 @@ static void draw_strip(struct page *p, const struct drawing *d, uint32_t first, 
 {
     int height = (int)(end - first) * ROW;
     put(p, "<svg xmlns=\"http://www.w3.org/2000/svg\" width=\"%d\" height=\"%d\" viewBox=\"0 0 %d %d\" "
-        "font-family=\"sans-serif\" font-size=\"14\">\n", d->width, height, d->width, height);
+        "font-family=\"sans-serif\" font-size=\"14\" style=\"background:#fff\">\n", d->width, height, d->width, height);
     draw_lines(p, d, first, end);
     for (uint32_t i = first; i < end; i++)
         draw_element(p, d, i, (int)(i - first) * ROW + ROW / 2);
