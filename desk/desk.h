@@ -102,9 +102,11 @@ enum status get_rule(struct rule *rule, const char *given, const char *text_file
 /* Turns a typed text into the rule's bytes; says what is wrong with it, where, and what could stand there. */
 enum status read_typed(struct rule *rule, const struct names *names);
 
-/* Shows a typed text, or the part of it around a place, and a line of marks under it: `marks` has a sign for each byte
- * of the text, and a last one for its end. */
-void show_text(FILE *to, const struct typed *typed, size_t place, const char *marks);
+/* A text above 1,024 bytes is refused; with words for labels more may be typed. No text above this is accepted. */
+enum { TYPED_BYTES = 65536 };
+
+/* Shows a typed text and marks under it: `marks` has a sign for each byte of the text, and a last one for its end. */
+void show_marked(FILE *to, const struct typed *typed, const char *marks);
 
 /* One entry of an accepted rule, in words. */
 struct entry {
@@ -127,7 +129,7 @@ extern const char way_words[];
 /* Reads an accepted rule into its table. */
 void read_table(struct table *table, const struct rule *rule, const struct names *names);
 
-/* Marks, as show_text takes them, the steps of a typed text that look ahead. */
+/* Marks, as show_marked takes them, the steps of a typed text that look ahead. */
 void mark_ahead(const struct typed *typed, char *marks);
 
 /* ---- reports (report.c) */

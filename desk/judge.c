@@ -27,15 +27,17 @@ static void clear_progress(const struct judging *j)
 
 static void draw_progress(struct judging *j, int done, int all, const char *name)
 {
+    enum { MOST = 50 };             /* bytes of a name, so that the line is one line */
     struct timespec now;
+    size_t len = strlen(name);
     if (!j->terminal || clock_gettime(CLOCK_MONOTONIC, &now) != 0)
         return;
     if (done > 0 && (now.tv_sec - j->shown.tv_sec) * 10 + (now.tv_nsec - j->shown.tv_nsec) / 100000000 < 1)
         return;
     j->shown = now;
     fflush(stdout);
-    fprintf(stderr, "\r\033[K%d of %d: ", done + 1, all);
-    put_name(stderr, name);
+    fprintf(stderr, "\r\033[K%d of %d: %s", done + 1, all, len > MOST ? ".." : "");
+    put_name(stderr, len > MOST ? name + len - MOST : name);
     fflush(stderr);
 }
 

@@ -5,9 +5,6 @@
 #include <string.h>
 #include <sys/stat.h>
 
-/* A text above 1,024 bytes is refused; with words for labels more may have been typed. So much is enough for any. */
-enum { TYPED_BYTES = 65536 };
-
 /* An editor ends a file with a line feed, which is no part of the text. */
 static size_t without_line_end(const uint8_t *text, size_t len)
 {
@@ -65,16 +62,16 @@ static void print_table(const struct table *t)
 
 static void print_looks(const struct table *t, const struct typed *typed)
 {
-    char marks[PZ_TEXT_BYTES * 2];
+    static char marks[TYPED_BYTES + 1];
     if (!t->ahead) {
         printf("The rule looks back: each element has its verdict at once, when it opens.\n");
         return;
     }
     printf("The rule looks ahead, by %s: its verdicts need the whole report.\n", t->makers);
-    if (typed->text == NULL || typed->len >= sizeof marks)
+    if (typed->text == NULL)
         return;
     mark_ahead(typed, marks);
-    show_text(stdout, typed, 0, marks);
+    show_marked(stdout, typed, marks);
 }
 
 static void print_typed(const struct typed *typed)

@@ -24,6 +24,12 @@ static const char *const kinds[] = {
     [14] = "are there children, and does entry A hold at each?",
 };
 
+static const char *words_of(uint32_t kind)
+{
+    bool known = kind < sizeof kinds / sizeof kinds[0] && kinds[kind] != NULL;
+    return known ? kinds[kind] : "what this tool has no words for";
+}
+
 static uint32_t number_at(const uint8_t *at)
 {
     return at[0] + 256u * at[1];
@@ -32,7 +38,7 @@ static uint32_t number_at(const uint8_t *at)
 static void put_asks(struct entry *e, uint32_t kind, const uint8_t *body, const struct names *names)
 {
     size_t len = 0;
-    for (const char *at = kinds[kind]; *at != '\0'; at++) {
+    for (const char *at = words_of(kind); *at != '\0'; at++) {
         char *to = e->asks + len;
         size_t room = sizeof e->asks - len;
         if (*at == 'A' || *at == 'B')
@@ -46,9 +52,9 @@ static void put_asks(struct entry *e, uint32_t kind, const uint8_t *body, const 
 
 static void put_uses(struct entry *e, uint32_t kind, const uint8_t *body)
 {
-    if (strchr(kinds[kind], 'B') != NULL)
+    if (strchr(words_of(kind), 'B') != NULL)
         snprintf(e->uses, sizeof e->uses, "%u, %u", (unsigned)number_at(body), (unsigned)number_at(body + 2));
-    else if (strchr(kinds[kind], 'A') != NULL)
+    else if (strchr(words_of(kind), 'A') != NULL)
         snprintf(e->uses, sizeof e->uses, "%u", (unsigned)number_at(body));
     else
         snprintf(e->uses, sizeof e->uses, "none");
@@ -91,7 +97,7 @@ void read_table(struct table *t, const struct rule *rule, const struct names *na
         put_asks(e, kind, record + 4, names);
         put_uses(e, kind, record + 4);
         e->ahead = looks_ahead(t->count, record, len);
-        t->ways = t->ways || strstr(kinds[kind], " way ") != NULL;
+        t->ways = t->ways || strstr(words_of(kind), " way ") != NULL;
         at += len;
     }
     put_makers(t);

@@ -5,7 +5,7 @@
 #include <inttypes.h>
 #include <string.h>
 
-enum { ROW = 24, ROWS = 8, LEFT = 16, SIGN = 7, GLYPH = 8, NARROW = 320 };
+enum { ROW = 24, ROWS = 8, LEFT = 16, SIGN = 7, GLYPH = 9, NARROW = 320 };
 
 static const char line_colour[] = "#888", sign_colour[] = "#0b4f9e";
 

@@ -126,6 +126,8 @@ static void say_expected(const struct typed *t, size_t place, const struct names
 
 /* ---- the text and a mark under it */
 
+enum { SHOWN = 100 };               /* so many bytes of a text stand on a line */
+
 /* Prints the character that stands at a place, or a dot for a byte that does not print; gives how many bytes it has. */
 static size_t put_character(FILE *to, const struct typed *t, size_t at, bool *dots)
 {
@@ -138,35 +140,49 @@ static size_t put_character(FILE *to, const struct typed *t, size_t at, bool *do
     return len > 0 ? len : 1;
 }
 
-void show_text(FILE *to, const struct typed *t, size_t place, const char *marks)
+/* Shows the text from one place to another, and the marks under it; gives where it stopped, behind a character. */
+static size_t show_part(FILE *to, const struct typed *t, size_t from, size_t end, const char *marks)
 {
-    enum { BEFORE = 40, WIDTH = 100 };
-    size_t from = place > BEFORE ? place - BEFORE : 0, end = t->len - from > WIDTH ? from + WIDTH : t->len, at = from;
-    size_t columns = 0, last = 0;
-    char under[WIDTH + 8];
+    char under[SHOWN + 8];
+    size_t at = from, columns = 0, last = 0;
     bool dots = false;
     fprintf(to, "    %s", from > 0 ? ".." : "");
     while (at < end) {
         under[columns++] = marks[at];
         at += put_character(to, t, at, &dots);
     }
-    under[columns++] = at <= t->len ? marks[at] : ' ';
+    under[columns++] = at == t->len ? marks[at] : ' ';
     for (size_t i = 0; i < columns; i++)
         last = under[i] != ' ' ? i + 1 : last;
-    fprintf(to, "%s\n    %s%.*s\n", at < t->len ? ".." : "", from > 0 ? "  " : "", (int)last, under);
+    fprintf(to, "%s\n", at < t->len ? ".." : "");
+    if (last > 0)
+        fprintf(to, "    %s%.*s\n", from > 0 ? "  " : "", (int)last, under);
     if (dots)
         fprintf(to, "    (a byte that does not print is shown as a dot)\n");
+    return at;
+}
+
+void show_marked(FILE *to, const struct typed *t, const char *marks)
+{
+    for (size_t at = 0; at < t->len;)
+        at = show_part(to, t, at, t->len - at > SHOWN ? at + SHOWN : t->len, marks);
+}
+
+/* Shows the text, or the part of it around the place. */
+static void show_around(const struct typed *t, size_t place, const char *marks)
+{
+    size_t from = place > SHOWN / 2 ? place - SHOWN / 2 : 0;
+    show_part(stderr, t, from, t->len - from > SHOWN ? from + SHOWN : t->len, marks);
 }
 
 static void mark_fault(const struct typed *t, size_t place, bool all)
 {
-    static char marks[65536 + 1];
-    size_t last = t->len < sizeof marks ? t->len : sizeof marks - 1;
+    static char marks[TYPED_BYTES + 1];
     memset(marks, ' ', sizeof marks);
     marks[place] = '^';
-    if (all && last > 1)
-        memset(marks + 1, '~', last - 1);
-    show_text(stderr, t, place, marks);
+    if (all)
+        memset(marks + 1, '~', (t->len < SHOWN ? t->len : SHOWN) - 1);
+    show_around(t, place, marks);
 }
 
 /* The whole text is meant. */
