@@ -42,10 +42,12 @@ enum status printed(void);
  * that is too long. Gives ALL_ACCEPTED, or CANNOT with errno set. */
 enum status read_file(const char *name, uint8_t *into, size_t most, size_t *len);
 
-/* Whether a file may be written under this name: none has it, or it is to be replaced. Else it says why not. */
+/* Whether a file may be written under this name: none has it, or it is to be replaced. Else it says why not. A command
+ * asks before it does anything else. */
 enum status may_write(const char *name, bool replace);
 
-/* Writes a file, whole or not at all. Gives CANNOT, having said why, where it cannot. */
+/* Writes a file, whole or not at all. Gives CANNOT, having said why, where it cannot: also where another file has got
+ * the name since may_write was asked, and is not to be replaced. */
 enum status write_file(const char *name, const void *from, size_t len, bool replace);
 
 /* ---- words for labels (names.c) */

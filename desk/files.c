@@ -109,11 +109,8 @@ static enum status write_beside(const char *name, char *beside, const void *from
 
 enum status write_file(const char *name, const void *from, size_t len, bool replace)
 {
-    char *beside;
-    enum status status = may_write(name, replace);
-    if (status != ALL_ACCEPTED)
-        return status;
-    beside = beside_of(name);
+    char *beside = beside_of(name);
+    enum status status;
     if (beside == NULL)
         return cannot_write(name);
     status = write_beside(name, beside, from, len, replace);
