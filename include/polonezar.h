@@ -100,7 +100,7 @@ enum pz_size {
     PZ_LABEL_LEAST = 1,         /* labels are 1 to 999, in rules and in reports */
     PZ_LABEL_MOST = 999,
     PZ_TEXT_BYTES = 1024,       /* a rule typed as text has 1 to 1,024 bytes */
-    PZ_PRINTOUT_BYTES = 81920   /* a printout has fewer bytes, whatever its rule and report are */
+    PZ_PRINTOUT_BYTES = 81920   /* no printout has more bytes, whatever its rule and report are */
 };
 
 /* The numbers given back. pz_read_rule gives 0 to 4; pz_read_report gives 0 and 5 to 8; pz_evaluate and

@@ -121,6 +121,7 @@ read-path text rule after r typed =
       follows = path-follows text rule after r typed;
       kept = λ h. refused-kept text rule r after typed h .0;
       uncounted = λ h. refused-kept text rule r after typed h .1;
+      counted = λ t y z. taken-bytes text rule r after typed y z .0;
       front = λ t y z.
           record {
             entries = table-rule t (y .labels) (few text rule after r t typed z y);

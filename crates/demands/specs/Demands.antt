@@ -172,6 +172,7 @@ pub record PathAnswered (text rule : List ℕ) (r : PathReply) (after : List ℕ
   pub follows : Follows (PathRow text (length rule)) (r .number) (r .place)
   pub kept : Kept (r .number) rule after
   pub uncounted : (r .number ≡ 0 → ⊥) → r .written ≡ 0
+  pub counted : (t : Test) → TextOf text t → r .number ≡ 0 → r .written ≡ length (bytesFor t)
   pub front : (t : Test) → TextOf text t → r .number ≡ 0 → IsRule (take (r .written) after) (tableOf t)
   pub behind : r .number ≡ 0 → drop (r .written) after ≡ drop (r .written) rule
 

@@ -2,7 +2,7 @@
 use Prim.Native.Nat.{_-_, _≤_}
 use native.Mathlib.Omega.{arith}
 use mathlib.Core.Path.{_≡_, sym}
-use lib.ListN.{length, take}
+use lib.ListN.{take}
 use Rattle.numbers.specs.Lists.{over}
 use Rattle.numbers.proofs.Lists.{over-none, over-length, copied-next}
 use borrow.Author.Needs.{needs}
