@@ -25,7 +25,7 @@ const TOO_LARGE: u32 = 65537;
 // What is known of a line: the number that is being read, how often its record is put and where that
 // begins, where the rule ends, and how many bytes are spelt. The first two of them are the rule's
 // length, so that all are an input of the program.
-#[derive(Drop)]
+#[derive(Clone, Copy)]
 pub struct Line {
     pub part: usize,
     pub number: u32,

@@ -6,6 +6,8 @@
 // times. What is written is the name and what is answered; where the number of words is left out,
 // the record that the program prints. A line that cannot be read says so, so that no case is passed
 // over.
+#![tactic(auto)]
+
 mod answer;
 mod line;
 

@@ -9,7 +9,7 @@ use terms::kind::{Numbers, Row, row_of};
 use terms::limits::{ENTRIES_MOST, LABEL_MOST};
 
 // An entry of a rule: its kind, and the numbers of its body, 0 where it has none. A label is `a`.
-#[derive(Drop)]
+#[derive(Clone, Copy)]
 pub struct Entry {
     pub kind: usize,
     pub a: usize,
@@ -42,7 +42,7 @@ fn misdirects(numbers: Numbers, arguments: usize, own: usize, e: Entry) -> bool
 
 // What the record at an offset is taken for: its number, 0 where it has no fault; its entry and where
 // the next record begins, where it has none; else no entry and the same offset.
-#[derive(Drop)]
+#[derive(Clone, Copy)]
 pub struct Taken {
     pub fault: u32,
     pub entry: Entry,

@@ -12,7 +12,7 @@ use text::render::{put_accepted, put_refused};
 
 // What is decided of a rule and a report: document 01's number and the place, and how many bytes of text
 // were put; none where they are refused.
-#[derive(Drop)]
+#[derive(Clone, Copy)]
 pub struct Judgement {
     pub number: u32,
     pub place: u32,

@@ -5,7 +5,7 @@ ghost use Rattle.judge.specs.Input.{rule_end, split_of};
 use numbers::bytes::two_bytes;
 
 // Whether the input has a rule of the length that it says, and where that rule ends.
-#[derive(Drop)]
+#[derive(Clone, Copy)]
 pub struct Halves {
     pub fits: bool,
     pub end: usize,

@@ -15,7 +15,7 @@ use terms::answer::Answer;
 // What a whole report is answered: document 01's number, the place, how many elements there are and
 // how many of them are selected. Refused: elements and selected are 0.
 #[repr(C)]
-#[derive(Drop)]
+#[derive(Clone, Copy)]
 pub struct Evaluation {
     pub number: u32,
     pub place: u32,
@@ -24,7 +24,7 @@ pub struct Evaluation {
 }
 
 // The answer, and how many entries the rule has; 0 where it is refused.
-#[derive(Drop)]
+#[derive(Clone, Copy)]
 pub struct Marking {
     pub answer: Evaluation,
     pub entries: usize,

@@ -1,3 +1,5 @@
 // Numbers as bytes and as bits: the lowest layer.
+#![tactic(auto)]
+
 pub mod bits;
 pub mod bytes;

@@ -12,7 +12,7 @@ use walk::walk::{ask_rule, walk_rule};
 
 // What a call answers: document 01's number, the place, and the verdict.
 #[repr(C)]
-#[derive(Drop)]
+#[derive(Clone, Copy)]
 pub struct StepReply {
     pub number: u32,
     pub place: u32,

@@ -23,7 +23,7 @@ pub const ROW_PLACES: usize = 192;
 
 // A test, a path or a step: its end, whether a word or number ends there, its entries, its rule's bytes; or
 // the place where it stops.
-#[derive(Drop)]
+#[derive(Clone, Copy)]
 pub(crate) enum Parsed {
     Done(u16, bool, u16, u16),
     Bad(u16),
@@ -31,7 +31,7 @@ pub(crate) enum Parsed {
 
 // A byte string as a text: how many entries it has and how many bytes its rule; or the place where
 // it stops being one.
-#[derive(Drop)]
+#[derive(Clone, Copy)]
 pub enum Outcome {
     Text(usize, usize),
     Stopped(usize),

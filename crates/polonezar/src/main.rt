@@ -4,6 +4,8 @@
 // at most 65,536 bytes are read. What is printed is a proved function of these bytes (`put_printout`
 // of the crate judge); `main` only moves them. A program of this language has no exit status, so a
 // record that could not be written whole is said on standard error.
+#![tactic(auto)]
+
 fn main() {
     let mut input = io::large_buffer();
     let n = io::read_full(0, &mut input);

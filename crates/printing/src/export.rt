@@ -9,7 +9,7 @@ use text::put::TEXT_BYTES;
 
 // What the call answers: document 01's number, the place, and how many bytes it wrote.
 #[repr(C)]
-#[derive(Drop)]
+#[derive(Clone, Copy)]
 pub struct PrintReply {
     pub number: u32,
     pub place: u32,

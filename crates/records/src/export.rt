@@ -7,7 +7,7 @@ use terms::answer::Answer;
 
 // What the rule reader answers: document 01's number, the place, and how many entries.
 #[repr(C)]
-#[derive(Drop)]
+#[derive(Clone, Copy)]
 pub struct RuleReply {
     pub number: u32,
     pub place: u32,
@@ -16,7 +16,7 @@ pub struct RuleReply {
 
 // What the report reader answers: document 01's number, the place, and how many elements.
 #[repr(C)]
-#[derive(Drop)]
+#[derive(Clone, Copy)]
 pub struct ReportReply {
     pub number: u32,
     pub place: u32,

@@ -14,7 +14,7 @@ const FORMS: u16 = 17;
 
 // What stands in the buffer: how many entries, and how many bytes they take. Entries count from 0, so
 // the next one gets the number `entries`.
-#[derive(Drop)]
+#[derive(Clone, Copy)]
 pub struct Written {
     pub entries: u16,
     pub bytes: usize,

@@ -13,7 +13,7 @@ use tag::tag::{close_fault, open_fault};
 use terms::limits::LEVELS_MOST;
 
 // The words of the parent and of the previous sibling that an opening reads.
-#[derive(Drop)]
+#[derive(Clone, Copy)]
 pub struct Words {
     pub parent: u64,
     pub sibling: u64,

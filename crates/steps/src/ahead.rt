@@ -7,7 +7,7 @@ use crate::word::bit_in;
 
 // What is asked by turns of the elements ahead: a mark at the end of a way (kinds 10 and 12), at every
 // one of at least one (14).
-#[derive(Drop)]
+#[derive(Clone, Copy)]
 pub enum AskedAhead {
     Until,
     Every,

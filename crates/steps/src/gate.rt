@@ -7,7 +7,7 @@ ghost use Rattle.steps.specs.Steps.{gate_mark, always_gate, not_gate, or_gate, a
 use numbers::bits::WORD_BITS;
 
 // The two bits that a gate joins, and what it inverts.
-#[derive(Drop)]
+#[derive(Clone, Copy)]
 pub struct Gate {
     pub a: usize,
     pub b: usize,

@@ -35,7 +35,7 @@ pub fn close_fault(depth: usize) -> u32
 
 // What the record at an offset is taken for: its number, 0 where it has no fault; whether it opens an
 // element; and the label that it names, 0 where it names none. A record that is not whole is no opening.
-#[derive(Drop)]
+#[derive(Clone, Copy)]
 pub struct TakenTag {
     pub fault: u32,
     pub opening: bool,

@@ -5,7 +5,7 @@ ghost use Rattle.tally.specs.Tally.{tally_refused, Tallied, truth_of};
 
 // Three counts that C lends and this crate alters where they stand.
 #[repr(C)]
-#[derive(Drop)]
+#[derive(Clone, Copy)]
 pub struct Tally {
     pub seen: u32,
     pub selected: u32,
@@ -13,7 +13,7 @@ pub struct Tally {
 }
 
 // The number, and the tally afterwards.
-#[derive(Drop)]
+#[derive(Clone, Copy)]
 pub struct Counted {
     pub number: u32,
     pub tally: Tally,

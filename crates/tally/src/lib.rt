@@ -1,2 +1,4 @@
 // The running tally of verdicts: seen, selected, passed over.
+#![tactic(auto)]
+
 pub mod export;

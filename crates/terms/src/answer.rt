@@ -1,5 +1,5 @@
 // What a reader answers. specs/Answer.antt gives each case the paper's number and values.
-#[derive(Drop)]
+#[derive(Clone, Copy)]
 pub enum Answer {
     // how many entries, or elements
     Accepted(usize),

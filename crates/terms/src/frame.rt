@@ -2,7 +2,7 @@
 
 // A record is whole, or cut short (fewer than 4 bytes left, or running past the end), or garbled
 // (an unknown kind, or another length than its kind's).
-#[derive(Drop)]
+#[derive(Clone, Copy)]
 pub enum Frame {
     Whole,
     Cut,

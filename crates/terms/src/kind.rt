@@ -4,7 +4,7 @@ ghost use Rattle.std.specs.Prelude.{◌≡◌, ◌≤◌};
 ghost use Rattle.terms.specs.Kinds.{axis_of, row_of, leads_back, shape_looks_back};
 
 // The axes of the tree.
-#[derive(Drop)]
+#[derive(Clone, Copy)]
 pub enum Axis {
     Child,
     Parent,
@@ -13,7 +13,7 @@ pub enum Axis {
 }
 
 // What is asked of an element alone.
-#[derive(Drop)]
+#[derive(Clone, Copy)]
 pub enum Local {
     Always,
     HasLabel,
@@ -24,7 +24,7 @@ pub enum Local {
 
 // What an entry means, by its shape: a question at the element; at a neighbour along an axis; at the end of
 // a way along an axis; at every child. A number that is no kind means nothing.
-#[derive(Drop)]
+#[derive(Clone, Copy)]
 pub enum Shape {
     Nothing,
     Here(Local),
@@ -34,7 +34,7 @@ pub enum Shape {
 }
 
 // What the numbers in a record's body are.
-#[derive(Drop)]
+#[derive(Clone, Copy)]
 pub enum Numbers {
     Nothing,
     Label,
@@ -42,7 +42,7 @@ pub enum Numbers {
 }
 
 // The row of a kind. Length 0 stands for a number that is no kind: no record is that short.
-#[derive(Drop)]
+#[derive(Clone, Copy)]
 pub struct Row {
     pub length: usize,
     pub arguments: usize,

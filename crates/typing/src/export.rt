@@ -9,7 +9,7 @@ use terms::limits::ENTRIES_MOST;
 
 // What the call answers: the number, the place, and how many bytes it wrote.
 #[repr(C)]
-#[derive(Drop)]
+#[derive(Clone, Copy)]
 pub struct PathReply {
     pub number: u32,
     pub place: u32,

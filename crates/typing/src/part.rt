@@ -6,7 +6,7 @@ ghost use Rattle.terms.specs.Limits.{entries_most};
 use parse::tree::ROW_PLACES;
 
 // What a row holds: its form and its two numbers.
-#[derive(Drop)]
+#[derive(Clone, Copy)]
 pub(crate) struct Part {
     pub form: u16,
     pub first: u16,

@@ -11,7 +11,7 @@ use terms::kind::{looks_back, row_of};
 use terms::limits::RULE_MOST;
 
 // What a walk gives: the rule's answer; of the entries read, whether one looks ahead, and the word.
-#[derive(Drop)]
+#[derive(Clone, Copy)]
 pub struct Walk {
     pub answer: Answer,
     pub ahead: bool,
@@ -70,7 +70,7 @@ pub fn walk_rule(rule: &[u8], label: usize, p: u64, q: u64) -> Walk
 }
 
 // What a walk gives that steps nowhere.
-#[derive(Drop)]
+#[derive(Clone, Copy)]
 pub struct Ahead {
     pub answer: Answer,
     pub ahead: bool,

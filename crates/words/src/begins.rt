@@ -7,7 +7,7 @@ ghost use Rattle.words.specs.Begins.{true_of, label_of, not_of, letters_at, begi
 use crate::words::{Word, byte_at, fixed_at, numeral_at};
 
 // An axis: its end, and the kind of one step along it.
-#[derive(Drop)]
+#[derive(Clone, Copy)]
 pub(crate) enum Named {
     Axis(usize, u16),
     None(usize),
@@ -15,7 +15,7 @@ pub(crate) enum Named {
 
 // What a test begins with: it is `true` or `label N` (its end, and N or 0); `not` (its end); `(`; `<`;
 // or a place.
-#[derive(Drop)]
+#[derive(Clone, Copy)]
 pub enum Begin {
     Leaf(usize, u16),
     Not(usize),
@@ -26,7 +26,7 @@ pub enum Begin {
 
 // What a step begins with: it is AXIS or AXIS* (its end, whether a word ends there, its form); `?`;
 // `(AXIS?` (its end and the step's form); or a place.
-#[derive(Drop)]
+#[derive(Clone, Copy)]
 pub enum Start {
     Plain(usize, bool, u16),
     Test,

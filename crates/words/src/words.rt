@@ -7,14 +7,14 @@ ghost use Rattle.words.specs.Words.{head_of, fixed_at, no_digit, digit_of, digit
 const NO_DIGIT: u16 = 10;
 
 // A word at a cursor: it stands there and ends so; or no byte can stand there at this place.
-#[derive(Drop)]
+#[derive(Clone, Copy)]
 pub enum Word {
     At(usize),
     Missing(usize),
 }
 
 // A number at a cursor: how many digits it has, 0 where there is none, and its value.
-#[derive(Drop)]
+#[derive(Clone, Copy)]
 pub(crate) struct Number {
     pub digits: usize,
     pub value: u16,
