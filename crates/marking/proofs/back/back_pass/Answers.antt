@@ -1,0 +1,58 @@
+-- `back_pass`: the elements passed have their marks, and a column leads to one of them. Assumes nothing.
+use Prim.Native.Nat.{◌≤◌, ◌-◌}
+use lib.ListN.{length}
+use Rattle.meaning.specs.Tree.{backward}
+use Rattle.layout.specs.Links.{leads}
+use Rattle.marking.specs.Pass.{Passed, bits_of}
+use Rattle.marking.specs.Steps.{along_mark}
+use Rattle.marking.proofs.PassLaws.{before-only, ascent-start, ascent-turn, ascent-end, own_in, earlier-in}
+use Rattle.marking.proofs.StepLaws.{back-turn}
+use borrow.Author.Rules.{rules}
+use native.Mathlib.Omega.{arith}
+use Rattle.marking.proofs.back.back_pass.Goals as goal
+
+pub loop-s-init : goal.loop-s-init
+loop-s-init c = (omega arith, ascent-start c.requires.1.0 _)
+
+pub offset_bounds-f-s : goal.offset_bounds-f-s
+offset_bounds-f-s c = omega arith
+
+pub bounds-f-s : goal.bounds-f-s
+bounds-f-s c = omega arith
+
+pub offset_bounds-marks-p : goal.offset_bounds-marks-p
+offset_bounds-marks-p c = omega (arith, c.wide-p.ensures.0, c.requires.1.1 c.loop-s.s c.loop-s-test.true)
+
+pub bounds-marks-p : goal.bounds-marks-p
+bounds-marks-p c = omega (arith, c.wide-p.ensures.0, c.requires.1.1 c.loop-s.s c.loop-s-test.true)
+
+pub offset_bounds-marks-s : goal.offset_bounds-marks-s
+offset_bounds-marks-s c = omega arith
+
+pub bounds-marks-s : goal.bounds-marks-s
+bounds-marks-s c = omega arith
+
+pub offset_bounds-marks-s-in-loop-s : goal.offset_bounds-marks-s-in-loop-s
+offset_bounds-marks-s-in-loop-s c = omega arith
+
+pub bounds-marks-s-in-loop-s : goal.bounds-marks-s-in-loop-s
+bounds-marks-s-in-loop-s c = omega arith
+
+pub overflow_add-s : goal.overflow_add-s
+overflow_add-s c = omega arith
+
+pub loop-s-smaller : goal.loop-s-smaller
+loop-s-smaller c = omega arith
+
+pub loop-s-preserved : goal.loop-s-preserved
+loop-s-preserved c =
+    let l = c.loop-s in
+    let pre = c.requires in
+    let t = c.loop-s-test.true in (
+      omega arith,
+      rw (c.back_word.ensures, c.wide-p.ensures.0, own_in pre.1.0, earlier-in pre.1.0 pre.0.0, earlier-in pre.1.0 pre.0.1)
+          (ascent-turn pre.1.0 _ l.s _ t (back-turn c.args.f.now _ _ _ l.s pre.1.0 pre.0.0 pre.0.1 t (pre.1.1 l.s t) l.invariant.1) l.invariant.1),
+    )
+
+pub returns : goal.returns
+returns c = ascent-end c.requires.1.0 _ c.loop-s.s c.loop-s-test.false c.loop-s.invariant.1

@@ -1,0 +1,17 @@
+-- `label_pass`: the elements passed have their marks. Assumes nothing.
+use Prim.Native.Nat.{◌≤◌, ◌-◌}
+use mathlib.Core.Path.{refl}
+use lib.Dec.{eqb}
+use lib.ListN.{length, get_or}
+use Rattle.marking.specs.Pass.{Passed}
+use Rattle.marking.proofs.PassLaws.{before-only, ascent-start, ascent-turn, ascent-end, own_in}
+use borrow.Author.Rules.{rules}
+use native.Mathlib.Omega.{arith}
+use Rattle.marking.proofs.local.label_pass.Given as goal
+
+abbrev pub invariant-loop-s : goal.invariant-loop-s
+invariant-loop-s l =
+    (l.s ≤ length l.labels) × Passed (length l.labels) l.i (before-only (λ l.s. eqb (get_or l.labels l.s 0) l.label) l.s) l.initial.marks l.marks
+
+abbrev pub decreases-loop-s : goal.decreases-loop-s
+decreases-loop-s l = length l.labels - l.s

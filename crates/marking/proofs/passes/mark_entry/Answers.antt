@@ -1,0 +1,50 @@
+-- `mark_entry`: each shape has its pass, and the pass leaves what the shape means. Assumes nothing.
+use mathlib.Core.Path.{refl}
+use Rattle.terms.specs.declared.kind.Axis.TheVariants.{Child}
+use Rattle.terms.specs.Kinds.{numbers_of}
+use Rattle.steps.specs.Steps.{column_of}
+use Rattle.marking.proofs.KindLaws.{column-room, passed-some, passed-until, passed-every, passed-local, passed-nothing, ups-nearest}
+use borrow.Author.Rules.{rules}
+use Rattle.marking.proofs.passes.mark_entry.Goals as goal
+
+pub local_pass-requires : goal.local_pass-requires
+unfolding numbers_of
+local_pass-requires c =
+    let p = c.requires in
+    (λ h. p.0 (rw c.shape-1.given.1 h), p.1.0)
+
+pub along_pass-requires : goal.along_pass-requires
+unfolding numbers_of
+along_pass-requires c =
+    let p = c.requires in
+    (p.0 (rw c.shape-in-SomeAlong-1.given.1 refl), column-room p.1.1.1 _ _ c.column.ensures p.1.0)
+
+pub along_pass-requires-in-UntilAlong : goal.along_pass-requires-in-UntilAlong
+unfolding numbers_of
+along_pass-requires-in-UntilAlong c =
+    let p = c.requires in
+    (p.0 (rw c.shape-in-UntilAlong-1.given.1 refl), column-room p.1.1.1 _ _ c.column-in-UntilAlong.ensures p.1.0)
+
+pub turn_pass-requires : goal.turn_pass-requires
+unfolding numbers_of column_of
+turn_pass-requires c =
+    let p = c.requires in
+    let r = column-room p.1.1.1 Child _ refl p.1.0 in
+    (p.0 (rw c.enum_told-in-EveryChild-1.given.1 refl), (r.0, (r.1, ups-nearest p.1.1.1)))
+
+pub returns-in-Nothing : goal.returns-in-Nothing
+returns-in-Nothing c = let p = c.requires in λ levels columns. passed-nothing columns _ _ p.1.0 c.enum_told-1.given.1
+
+pub returns-in-Here : goal.returns-in-Here
+returns-in-Here c = λ levels columns. passed-local columns _ _ _ c.shape-1.given.1 c.local_pass.ensures
+
+pub returns-in-SomeAlong : goal.returns-in-SomeAlong
+returns-in-SomeAlong c = λ levels columns.
+    passed-some columns _ _ _ _ c.column.ensures c.shape-in-SomeAlong-1.given.1 c.along_pass.ensures
+
+pub returns-in-UntilAlong : goal.returns-in-UntilAlong
+returns-in-UntilAlong c = λ levels columns.
+    passed-until columns _ _ _ _ c.column-in-UntilAlong.ensures c.shape-in-UntilAlong-1.given.1 c.along_pass-in-UntilAlong.ensures
+
+pub returns-in-EveryChild : goal.returns-in-EveryChild
+returns-in-EveryChild c = λ levels columns. passed-every columns _ _ c.enum_told-in-EveryChild-1.given.1 c.turn_pass.ensures

@@ -1,0 +1,10 @@
+-- `close_step`: 10 first, and else what the state's bytes say. Assumes nothing.
+use Rattle.onepass.proofs.CallLaws.{step-ahead, step-closed}
+use borrow.Author.Rules.{rules}
+use Rattle.onepass.proofs.export.close_step.Goals as goal
+
+pub returns-then-ahead : goal.returns-then-ahead
+returns-then-ahead c = rw c.refuse_ahead.ensures (step-ahead _ _ _ _ _ c.if-ahead.true)
+
+pub returns : goal.returns
+returns c = step-closed _ _ _ _ c.if-ahead.false c.close_state-number.ensures

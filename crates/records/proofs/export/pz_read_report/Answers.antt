@@ -1,0 +1,30 @@
+-- `pz_read_report` gives the report reader's answer as numbers: each fits, by the laws of `rules` and `reports` on places and counts. Assumes nothing.
+use native.Mathlib.Omega.{arith}
+use mathlib.Core.Path.{ap, sym, ◌∙◌}
+use borrow.Author.Rules.{rules}
+use Rattle.terms.specs.Answer.{place_of, count_of}
+use Rattle.records.specs.Reply.{report_reply}
+use Rattle.reports.proofs.ElementLaws.{report-small}
+use Rattle.records.proofs.export.pz_read_report.Goals as goal
+
+pub overflow_cast-result : goal.overflow_cast-result
+overflow_cast-result c =
+    omega (
+      arith,
+      (report-small c.args.report.now).count_within,
+      ap count_of (sym c.answer-1.given.1 ∙ c.read_report-answer.ensures),
+    )
+
+pub overflow_cast-result-in-Refused : goal.overflow_cast-result-in-Refused
+overflow_cast-result-in-Refused c =
+    omega (
+      arith,
+      (report-small c.args.report.now).place_in,
+      ap place_of (sym c.answer-in-Refused-1.given.1 ∙ c.read_report-answer.ensures),
+    )
+
+pub returns-in-Accepted : goal.returns-in-Accepted
+returns-in-Accepted c = ap report_reply (sym c.answer-1.given.1 ∙ c.read_report-answer.ensures)
+
+pub returns-in-Refused : goal.returns-in-Refused
+returns-in-Refused c = ap report_reply (sym c.answer-in-Refused-1.given.1 ∙ c.read_report-answer.ensures)

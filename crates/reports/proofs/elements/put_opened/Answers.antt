@@ -1,0 +1,5 @@
+use borrow.Author.Rules.{rules}
+use Rattle.reports.proofs.elements.put_opened.Goals as goal
+
+pub returns-then-opens : goal.returns-then-opens
+returns-then-opens c = rw c.if-opens.true (c.put.ensures, c.put-then-opens.ensures)

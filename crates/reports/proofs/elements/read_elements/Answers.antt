@@ -1,0 +1,80 @@
+-- `read_elements`: one walk, whose columns hold the elements of the tags read. Assumes nothing.
+use native.Mathlib.Omega.{arith}
+use borrow.Author.Rules.{rules}
+use Prim.Native.Nat.{ℕ, ◌+◌, ◌≤◌, ◌<◌, ◌-◌}
+use lib.ListN.{length}
+use mathlib.Core.Path.{ap, ◌∙◌}
+use Rattle.numbers.proofs.Lists.{over-length}
+use Rattle.reports.proofs.ElementLaws.{WalkMid, walk_start, opening-within, closing-within, walk-opens, walk-closes, walk-ended, walk_refused, read-empty, read-long}
+use Rattle.reports.proofs.elements.read_elements.Goals as goal
+
+-- Where the next record begins, after the branch on the tag in hand.
+opened : (c : Then-taken) → c.loop-at.at + 6 ≤ length c.args.report.now
+opened c =
+    opening-within _ _ _ c.loop-at.invariant.1 c.if-report-at.false _ c.take_tag-taken.ensures.0 c.if-taken-ne0.false c.if-taken.true
+
+closed : (c : Else-taken) → (c.loop-at.at + 4 ≤ length c.args.report.now) × (0 < c.loop-at.depth)
+closed c =
+    closing-within _ _ _ c.loop-at.invariant.1 c.if-report-at.false _ c.take_tag-taken.ensures.0 c.if-taken-ne0.false c.if-taken.false
+
+pub returns-then-report-lt1 : goal.returns-then-report-lt1
+returns-then-report-lt1 c = read-empty _ _ _ c.if-report-lt1.true
+
+pub returns-then-report-gt-REPORT_MOST : goal.returns-then-report-gt-REPORT_MOST
+returns-then-report-gt-REPORT_MOST c = read-long _ _ _ c.if-report-gt-REPORT_MOST.true
+
+pub loop-at-init : goal.loop-at-init
+loop-at-init c = (0, walk_start _ _ _)
+
+pub put_opened-requires : goal.put_opened-requires
+put_opened-requires c = (c.take_tag-taken.ensures.1, omega (arith, c.loop-at.invariant.1.mid.shallow))
+
+pub overflow_add-depth : goal.overflow_add-depth
+overflow_add-depth c = omega (arith, c.loop-at.invariant.1.mid.shallow)
+
+pub overflow_add-elements : goal.overflow_add-elements
+overflow_add-elements c = omega (arith, c.loop-at.invariant.1.mid.few)
+
+pub overflow_add-at : goal.overflow_add-at
+overflow_add-at c = omega (arith, opened c)
+
+pub loop-at-smaller-then-taken : goal.loop-at-smaller-then-taken
+loop-at-smaller-then-taken c = omega (arith, opened c)
+
+pub loop-at-preserved-then-taken : goal.loop-at-preserved-then-taken
+loop-at-preserved-then-taken c =
+    let p = c.put_opened.ensures in
+    (_, walk-opens _ _ _ c.loop-at.invariant.1 c.if-report-at.false _ c.take_tag-taken.ensures.0 c.if-taken-ne0.false p.0 p.1 c.if-taken.true)
+
+pub overflow_sub-depth : goal.overflow_sub-depth
+overflow_sub-depth c = (closed c).1
+
+pub overflow_add-at-else-taken : goal.overflow_add-at-else-taken
+overflow_add-at-else-taken c = omega (arith, (closed c).0)
+
+pub loop-at-smaller : goal.loop-at-smaller
+loop-at-smaller c = omega (arith, (closed c).0)
+
+pub loop-at-preserved : goal.loop-at-preserved
+loop-at-preserved c =
+    let p = c.put_opened.ensures in
+    (_, walk-closes _ _ _ c.loop-at.invariant.1 c.if-report-at.false _ c.take_tag-taken.ensures.0 c.if-taken-ne0.false p.0 p.1 c.if-taken.false)
+
+pub shape_of-labels-then-report-at : goal.shape_of-labels-then-report-at
+shape_of-labels-then-report-at c = ap length c.loop-at.invariant.1.labels_are ∙ over-length _ _
+
+pub shape_of-levels-then-report-at : goal.shape_of-levels-then-report-at
+shape_of-levels-then-report-at c = ap length c.loop-at.invariant.1.levels_are ∙ over-length _ _
+
+pub returns-then-report-at : goal.returns-then-report-at
+returns-then-report-at c = walk-ended _ _ _ c.loop-at.invariant.1 c.if-report-lt1.false c.if-report-gt-REPORT_MOST.false c.if-report-at.true c.end_of_lem.ensures
+
+pub shape_of-labels-then-taken-ne0 : goal.shape_of-labels-then-taken-ne0
+shape_of-labels-then-taken-ne0 c = ap length c.loop-at.invariant.1.labels_are ∙ over-length _ _
+
+pub shape_of-levels-then-taken-ne0 : goal.shape_of-levels-then-taken-ne0
+shape_of-levels-then-taken-ne0 c = ap length c.loop-at.invariant.1.levels_are ∙ over-length _ _
+
+pub returns-then-taken-ne0 : goal.returns-then-taken-ne0
+returns-then-taken-ne0 c =
+    walk_refused _ _ _ c.loop-at.invariant.1 c.if-report-lt1.false c.if-report-gt-REPORT_MOST.false c.if-report-at.false _ c.take_tag-taken.ensures.0 c.if-taken-ne0.true

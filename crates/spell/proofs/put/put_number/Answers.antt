@@ -1,0 +1,12 @@
+-- `put_number` stores two bytes. Assumes nothing.
+use native.Mathlib.Omega.{arith}
+use lib.ListN.{length-set}
+use Rattle.spell.proofs.Records.{number-puts}
+use borrow.Author.Rules.{rules}
+use Rattle.spell.proofs.put.put_number.Goals as goal
+
+pub bounds-rule-at-2 : goal.bounds-rule-at-2
+bounds-rule-at-2 c = rw length-set (omega arith)
+
+pub returns : goal.returns
+returns c = number-puts c.args.x c.args.rule.now c.args.at

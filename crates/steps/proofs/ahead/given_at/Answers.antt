@@ -1,0 +1,6 @@
+-- `given_at`: the bit is the word's. Assumes nothing.
+use borrow.Author.Rules.{rules}
+use Rattle.steps.proofs.ahead.given_at.Goals as goal
+
+pub returns : goal.returns
+returns c = rw (c.given_mark.ensures, c.bit_in.ensures)

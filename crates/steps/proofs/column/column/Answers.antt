@@ -1,0 +1,20 @@
+-- `column`: one arm for each axis. Assumes nothing.
+use Rattle.steps.specs.Steps.{column_of}
+use borrow.Author.Rules.{rules}
+use Rattle.steps.proofs.column.column.Goals as goal
+
+pub returns-in-Child : goal.returns-in-Child
+unfolding column_of
+returns-in-Child c = rw c.enum_told-1.given.1
+
+pub returns-in-Parent : goal.returns-in-Parent
+unfolding column_of
+returns-in-Parent c = rw c.enum_told-in-Parent-1.given.1
+
+pub returns-in-Next : goal.returns-in-Next
+unfolding column_of
+returns-in-Next c = rw c.enum_told-in-Next-1.given.1
+
+pub returns-in-Previous : goal.returns-in-Previous
+unfolding column_of
+returns-in-Previous c = rw c.enum_told-in-Previous-1.given.1

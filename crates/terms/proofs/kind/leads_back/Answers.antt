@@ -1,0 +1,20 @@
+-- `leads_back`: one arm for each axis. Assumes nothing.
+use Rattle.terms.specs.Kinds.{leads_back}
+use borrow.Author.Rules.{rules}
+use Rattle.terms.proofs.kind.leads_back.Goals as goal
+
+pub returns-in-Child : goal.returns-in-Child
+unfolding leads_back
+returns-in-Child c = rw c.enum_told-1.given.1
+
+pub returns-in-Parent : goal.returns-in-Parent
+unfolding leads_back
+returns-in-Parent c = rw c.enum_told-in-Parent-1.given.1
+
+pub returns-in-Next : goal.returns-in-Next
+unfolding leads_back
+returns-in-Next c = rw c.enum_told-in-Next-1.given.1
+
+pub returns-in-Previous : goal.returns-in-Previous
+unfolding leads_back
+returns-in-Previous c = rw c.enum_told-in-Previous-1.given.1

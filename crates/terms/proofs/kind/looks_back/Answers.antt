@@ -1,0 +1,24 @@
+-- `looks_back`: one arm for each shape. Assumes nothing.
+use Rattle.terms.specs.Kinds.{shape_looks_back}
+use borrow.Author.Rules.{rules}
+use Rattle.terms.proofs.kind.looks_back.Goals as goal
+
+pub returns-in-Nothing : goal.returns-in-Nothing
+unfolding shape_looks_back
+returns-in-Nothing c = rw c.enum_told-1.given.1
+
+pub returns-in-Here : goal.returns-in-Here
+unfolding shape_looks_back
+returns-in-Here c = rw c.enum_told-in-Here-1.given.1
+
+pub returns-in-SomeAlong : goal.returns-in-SomeAlong
+unfolding shape_looks_back
+returns-in-SomeAlong c = rw (c.leads_back.ensures, c.shape-1.given.1)
+
+pub returns-in-UntilAlong : goal.returns-in-UntilAlong
+unfolding shape_looks_back
+returns-in-UntilAlong c = rw (c.leads_back-in-UntilAlong.ensures, c.shape-in-UntilAlong-1.given.1)
+
+pub returns-in-EveryChild : goal.returns-in-EveryChild
+unfolding shape_looks_back
+returns-in-EveryChild c = rw c.enum_told-in-EveryChild-1.given.1

@@ -1,0 +1,20 @@
+-- `word_to`: one arm for each. Assumes nothing.
+use borrow.Author.Rules.{rules}
+use Rattle.meaning.specs.OnePass.{word_to}
+use Rattle.walk.proofs.step.word_to.Goals as goal
+
+pub returns-in-Parent : goal.returns-in-Parent
+unfolding word_to
+returns-in-Parent c = rw c.enum_told-1.given.1
+
+pub returns-in-Previous : goal.returns-in-Previous
+unfolding word_to
+returns-in-Previous c = rw c.enum_told-in-Previous-1.given.1
+
+pub returns-in-Child : goal.returns-in-Child
+unfolding word_to
+returns-in-Child c = rw c.enum_told-in-Child-1.given.1
+
+pub returns-in-Next : goal.returns-in-Next
+unfolding word_to
+returns-in-Next c = rw c.enum_told-in-Next-1.given.1

@@ -1,0 +1,10 @@
+use mathlib.Core.Path.{ap}
+use Rattle.words.specs.Begins.{named_of}
+use borrow.Author.Rules.{rules}
+use Rattle.words.proofs.begins.named_at.Goals as goal
+
+pub returns-in-Missing : goal.returns-in-Missing
+returns-in-Missing c = rw c.p-1.given.1 at (ap (named_of c.args.kind) c.fixed_at.ensures)
+
+pub returns-in-At : goal.returns-in-At
+returns-in-At c = rw c.e-1.given.1 at (ap (named_of c.args.kind) c.fixed_at.ensures)
