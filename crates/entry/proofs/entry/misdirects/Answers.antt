@@ -6,12 +6,12 @@ use Rattle.entry.proofs.entry.misdirects.Goals as goal
 
 pub returns-in-Nothing : goal.returns-in-Nothing
 unfolding misdirected
-returns-in-Nothing c = rw c.enum_told-1.given.1 refl
+returns-in-Nothing c = rw c.in-Nothing.is refl
 
 pub returns-in-Label : goal.returns-in-Label
 unfolding misdirected
-returns-in-Label c = rw c.enum_told-in-Label-1.given.1 refl
+returns-in-Label c = rw c.in-Label.is refl
 
 pub returns-in-Entries : goal.returns-in-Entries
 unfolding misdirected
-returns-in-Entries c = rw c.enum_told-in-Entries-1.given.1 refl
+returns-in-Entries c = rw c.in-Entries.is refl

@@ -7,16 +7,16 @@ use Rattle.layout.proofs.layout.lay_out.Goals as goal
 pub link_first-requires : goal.link_first-requires
 unfolding room_in
 link_first-requires c =
-    let r = laid-ready c.args.ups.now c.args.lefts.now c.read_elements-answer.ensures c.answer-1.given.1 _ c.least_of_four.ensures c.if-n-least_of_four.true in
+    let r = laid-ready c.args.ups.now c.args.lefts.now c.read_elements-answer.ensures c.in-Accepted.is _ c.least_of_four.ensures c.if-n-least_of_four.true in
     (r.0, (r.1, r.2, r.3))
 
 pub returns-then-n-least_of_four : goal.returns-then-n-least_of_four
 unfolding room_in
-returns-then-n-least_of_four c = laid-linked _ _ c.read_elements-answer.ensures c.answer-1.given.1 _ c.least_of_four.ensures c.if-n-least_of_four.true c.link_first.ensures.0 c.link_first.ensures.1
+returns-then-n-least_of_four c = laid-linked _ _ c.read_elements-answer.ensures c.in-Accepted.is _ c.least_of_four.ensures c.if-n-least_of_four.true c.link_first.ensures.ups_after c.link_first.ensures.lefts_after
 
 pub returns-else-n-least_of_four : goal.returns-else-n-least_of_four
 unfolding room_in
-returns-else-n-least_of_four c = laid-short _ _ c.read_elements-answer.ensures c.answer-1.given.1 _ c.least_of_four.ensures c.if-n-least_of_four.false
+returns-else-n-least_of_four c = laid-short _ _ c.read_elements-answer.ensures c.in-Accepted.is _ c.least_of_four.ensures c.if-n-least_of_four.false
 
 pub returns-in-Refused : goal.returns-in-Refused
-returns-in-Refused c = laid-refused _ _ c.read_elements-answer.ensures c.enum_told-1.given.1
+returns-in-Refused c = laid-refused _ _ c.read_elements-answer.ensures c.in-Refused.is

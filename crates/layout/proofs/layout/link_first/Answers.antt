@@ -6,19 +6,19 @@ use borrow.Author.Rules.{rules}
 use Rattle.layout.proofs.layout.link_first.Goals as goal
 
 pub slice_bounds-link-end : goal.slice_bounds-link-end
-slice_bounds-link-end c = sym (length-take-le _ _ c.requires.1.0)
+slice_bounds-link-end c = sym (length-take-le _ _ c.requires.n_in_bounds.0)
 
 pub slice_bounds-link-end-3 : goal.slice_bounds-link-end-3
-slice_bounds-link-end-3 c = sym (length-take-le _ _ c.requires.1.1)
+slice_bounds-link-end-3 c = sym (length-take-le _ _ c.requires.n_in_bounds.1)
 
 pub slice_bounds-link-end-5 : goal.slice_bounds-link-end-5
-slice_bounds-link-end-5 c = sym (length-take-le _ _ c.requires.1.2)
+slice_bounds-link-end-5 c = sym (length-take-le _ _ c.requires.n_in_bounds.2)
 
 pub link-requires : goal.link-requires
 link-requires c =
     let p = c.requires in
-    let n = sym (length-take-le _ _ p.1.0) in
-    (p.0, (length-take-le _ _ p.1.1 ∙ n, length-take-le _ _ p.1.2 ∙ n))
+    let n = sym (length-take-le _ _ p.n_in_bounds.0) in
+    (p.legal_levels, (length-take-le _ _ p.n_in_bounds.1 ∙ n, length-take-le _ _ p.n_in_bounds.2 ∙ n))
 
 pub returns : goal.returns
-returns c = let p = c.requires.1 in linked-first _ _ _ _ p.0 p.1 p.2 c.link.ensures
+returns c = let p = c.requires.n_in_bounds in linked-first _ _ _ _ p.legal_levels p.n_in_bounds p.2 c.link.ensures

@@ -7,7 +7,7 @@ use Rattle.marking.proofs.passes.along_pass.Goals as goal
 
 pub turn_pass-requires : goal.turn_pass-requires
 unfolding Nearest
-turn_pass-requires c = let p = c.requires in (p.0, (p.1.0, (p.1.1, tt)))
+turn_pass-requires c = let p = c.requires in (p.a_lt_i, (p.room.0, (p.room.1, tt)))
 
 pub returns-then-leads_back : goal.returns-then-leads_back
 unfolding direction

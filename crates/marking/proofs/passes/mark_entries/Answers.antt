@@ -11,40 +11,40 @@ use Rattle.marking.proofs.passes.mark_entries.Goals as goal
 
 pub loop-i-init : goal.loop-i-init
 loop-i-init c =
-    (omega arith, λ levels columns. words-start levels c.args.labels.now _ (rw columns.long at c.requires.1.0))
+    (omega arith, λ levels columns. words-start levels c.args.labels.now _ (rw columns.long at c.requires.room.0))
 
 pub overflow_mul-i : goal.overflow_mul-i
-overflow_mul-i c = let p = c.args in omega (arith, c.loop-i-test.true, (table-few p.entries p.table.now c.requires.0).1)
+overflow_mul-i c = let p = c.args in omega (arith, c.loop-i-test.true, (table-few p.entries p.table.now c.requires.rule_entries).1)
 
 pub offset_bounds-table-i : goal.offset_bounds-table-i
-offset_bounds-table-i c = let p = c.args in omega (arith, c.loop-i-test.true, (table-few p.entries p.table.now c.requires.0).1)
+offset_bounds-table-i c = let p = c.args in omega (arith, c.loop-i-test.true, (table-few p.entries p.table.now c.requires.rule_entries).1)
 
 pub bounds-table-i : goal.bounds-table-i
-bounds-table-i c = let p = c.args in omega (arith, c.loop-i-test.true, (table-few p.entries p.table.now c.requires.0).1)
+bounds-table-i c = let p = c.args in omega (arith, c.loop-i-test.true, (table-few p.entries p.table.now c.requires.rule_entries).1)
 
 pub overflow_mul-i-in-loop-i : goal.overflow_mul-i-in-loop-i
-overflow_mul-i-in-loop-i c = let p = c.args in omega (arith, c.loop-i-test.true, (table-few p.entries p.table.now c.requires.0).1)
+overflow_mul-i-in-loop-i c = let p = c.args in omega (arith, c.loop-i-test.true, (table-few p.entries p.table.now c.requires.rule_entries).1)
 
 pub overflow_add-i : goal.overflow_add-i
-overflow_add-i c = let p = c.args in omega (arith, c.loop-i-test.true, (table-few p.entries p.table.now c.requires.0).1)
+overflow_add-i c = let p = c.args in omega (arith, c.loop-i-test.true, (table-few p.entries p.table.now c.requires.rule_entries).1)
 
 pub offset_bounds-table-i-in-loop-i : goal.offset_bounds-table-i-in-loop-i
-offset_bounds-table-i-in-loop-i c = let p = c.args in omega (arith, c.loop-i-test.true, (table-few p.entries p.table.now c.requires.0).1)
+offset_bounds-table-i-in-loop-i c = let p = c.args in omega (arith, c.loop-i-test.true, (table-few p.entries p.table.now c.requires.rule_entries).1)
 
 pub bounds-table-i-in-loop-i : goal.bounds-table-i-in-loop-i
-bounds-table-i-in-loop-i c = let p = c.args in omega (arith, c.loop-i-test.true, (table-few p.entries p.table.now c.requires.0).1)
+bounds-table-i-in-loop-i c = let p = c.args in omega (arith, c.loop-i-test.true, (table-few p.entries p.table.now c.requires.rule_entries).1)
 
 pub overflow_mul-i-in-loop-i-2 : goal.overflow_mul-i-in-loop-i-2
-overflow_mul-i-in-loop-i-2 c = let p = c.args in omega (arith, c.loop-i-test.true, (table-few p.entries p.table.now c.requires.0).1)
+overflow_mul-i-in-loop-i-2 c = let p = c.args in omega (arith, c.loop-i-test.true, (table-few p.entries p.table.now c.requires.rule_entries).1)
 
 pub overflow_add-i-in-loop-i : goal.overflow_add-i-in-loop-i
-overflow_add-i-in-loop-i c = let p = c.args in omega (arith, c.loop-i-test.true, (table-few p.entries p.table.now c.requires.0).1)
+overflow_add-i-in-loop-i c = let p = c.args in omega (arith, c.loop-i-test.true, (table-few p.entries p.table.now c.requires.rule_entries).1)
 
 pub offset_bounds-table-i-in-loop-i-2 : goal.offset_bounds-table-i-in-loop-i-2
-offset_bounds-table-i-in-loop-i-2 c = let p = c.args in omega (arith, c.loop-i-test.true, (table-few p.entries p.table.now c.requires.0).1)
+offset_bounds-table-i-in-loop-i-2 c = let p = c.args in omega (arith, c.loop-i-test.true, (table-few p.entries p.table.now c.requires.rule_entries).1)
 
 pub bounds-table-i-in-loop-i-2 : goal.bounds-table-i-in-loop-i-2
-bounds-table-i-in-loop-i-2 c = let p = c.args in omega (arith, c.loop-i-test.true, (table-few p.entries p.table.now c.requires.0).1)
+bounds-table-i-in-loop-i-2 c = let p = c.args in omega (arith, c.loop-i-test.true, (table-few p.entries p.table.now c.requires.rule_entries).1)
 
 pub mark_entry-requires : goal.mark_entry-requires
 mark_entry-requires c =
@@ -53,10 +53,10 @@ mark_entry-requires c =
     let q = c.requires in
     let t = c.loop-i-test.true in
     let row = rw c.wide.ensures.0 at c.row_of-row.ensures in
-    let h = table-few p.entries p.table.now q.0 in
-    let f = table_fits p.entries p.table.now q.0 l.i t in
+    let h = table-few p.entries p.table.now q.rule_entries in
+    let f = table_fits p.entries p.table.now q.rule_entries l.i t in
     rw (c.wide-in-loop-i-2.ensures.0, c.wide-in-loop-i.ensures.0, row)
-    (f, (words-room q.1.1.0 p.labels.now _ q.1.1.1 q.1.0 (omega arith) (l.invariant.1 q.1.1.0 q.1.1.1), q.1.1))
+    (f, (words-room q.room.1.0 p.labels.now _ q.room.1.1 q.room.0 (omega arith) (l.invariant.1 q.room.1.0 q.room.1.1), q.room.1))
 
 pub overflow_add-i-in-loop-i-2 : goal.overflow_add-i-in-loop-i-2
 overflow_add-i-in-loop-i-2 c = omega (arith, c.loop-i-test.true, c.ranges)
@@ -72,13 +72,13 @@ loop-i-preserved c =
     let t = c.loop-i-test.true in
     let row = rw c.wide.ensures.0 at c.row_of-row.ensures in
     let e = rw (c.wide-in-loop-i-2.ensures.0, c.wide-in-loop-i.ensures.0, row) at c.mark_entry.ensures in
-    (omega arith, λ levels columns. table-turn p.entries p.table.now q.0 l.i t levels p.labels.now (l.invariant.1 levels columns) (e levels columns))
+    (omega arith, λ levels columns. table-turn p.entries p.table.now q.rule_entries l.i t levels p.labels.now (l.invariant.1 levels columns) (e levels columns))
 
 pub shape_of-marks : goal.shape_of-marks
-shape_of-marks c = let k = c.requires.1.1 in search (rules, (c.loop-i.invariant.1 k.0 k.1).long)
+shape_of-marks c = let k = c.requires.room.1 in search (rules, (c.loop-i.invariant.1 k.0 k.1).long)
 
 pub returns : goal.returns
 returns c =
     let l = c.loop-i in
     let p = c.args in
-    λ levels columns. table-end p.entries p.table.now c.requires.0 levels p.labels.now l.i (omega arith) (l.invariant.1 levels columns)
+    λ levels columns. table-end p.entries p.table.now c.requires.rule_entries levels p.labels.now l.i (omega arith) (l.invariant.1 levels columns)

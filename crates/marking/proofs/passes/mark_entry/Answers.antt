@@ -11,40 +11,40 @@ pub local_pass-requires : goal.local_pass-requires
 unfolding numbers_of
 local_pass-requires c =
     let p = c.requires in
-    (λ h. p.0 (rw c.shape-1.given.1 h), p.1.0)
+    (λ h. p.a_lt_i (rw c.in-Here.is h), p.room.0)
 
 pub along_pass-requires : goal.along_pass-requires
 unfolding numbers_of
 along_pass-requires c =
     let p = c.requires in
-    (p.0 (rw c.shape-in-SomeAlong-1.given.1 refl), column-room p.1.1.1 _ _ c.column.ensures p.1.0)
+    (p.a_lt_i (rw c.in-SomeAlong.is refl), column-room p.room.1.1 _ _ c.column.ensures p.room.0)
 
 pub along_pass-requires-in-UntilAlong : goal.along_pass-requires-in-UntilAlong
 unfolding numbers_of
 along_pass-requires-in-UntilAlong c =
     let p = c.requires in
-    (p.0 (rw c.shape-in-UntilAlong-1.given.1 refl), column-room p.1.1.1 _ _ c.column-in-UntilAlong.ensures p.1.0)
+    (p.a_lt_i (rw c.in-UntilAlong.is refl), column-room p.room.1.1 _ _ c.column-in-UntilAlong.ensures p.room.0)
 
 pub turn_pass-requires : goal.turn_pass-requires
 unfolding numbers_of column_of
 turn_pass-requires c =
     let p = c.requires in
-    let r = column-room p.1.1.1 Child _ refl p.1.0 in
-    (p.0 (rw c.enum_told-in-EveryChild-1.given.1 refl), (r.0, (r.1, ups-nearest p.1.1.1)))
+    let r = column-room p.room.1.1 Child _ refl p.room.0 in
+    (p.a_lt_i (rw c.in-EveryChild.is refl), (r.0, (r.1, ups-nearest p.room.1.1)))
 
 pub returns-in-Nothing : goal.returns-in-Nothing
-returns-in-Nothing c = let p = c.requires in λ levels columns. passed-nothing columns _ _ p.1.0 c.enum_told-1.given.1
+returns-in-Nothing c = let p = c.requires in λ levels columns. passed-nothing columns _ _ p.room.0 c.in-Nothing.is
 
 pub returns-in-Here : goal.returns-in-Here
-returns-in-Here c = λ levels columns. passed-local columns _ _ _ c.shape-1.given.1 c.local_pass.ensures
+returns-in-Here c = λ levels columns. passed-local columns _ _ _ c.in-Here.is c.local_pass.ensures
 
 pub returns-in-SomeAlong : goal.returns-in-SomeAlong
 returns-in-SomeAlong c = λ levels columns.
-    passed-some columns _ _ _ _ c.column.ensures c.shape-in-SomeAlong-1.given.1 c.along_pass.ensures
+    passed-some columns _ _ _ _ c.column.ensures c.in-SomeAlong.is c.along_pass.ensures
 
 pub returns-in-UntilAlong : goal.returns-in-UntilAlong
 returns-in-UntilAlong c = λ levels columns.
-    passed-until columns _ _ _ _ c.column-in-UntilAlong.ensures c.shape-in-UntilAlong-1.given.1 c.along_pass-in-UntilAlong.ensures
+    passed-until columns _ _ _ _ c.column-in-UntilAlong.ensures c.in-UntilAlong.is c.along_pass-in-UntilAlong.ensures
 
 pub returns-in-EveryChild : goal.returns-in-EveryChild
-returns-in-EveryChild c = λ levels columns. passed-every columns _ _ c.enum_told-in-EveryChild-1.given.1 c.turn_pass.ensures
+returns-in-EveryChild c = λ levels columns. passed-every columns _ _ c.in-EveryChild.is c.turn_pass.ensures

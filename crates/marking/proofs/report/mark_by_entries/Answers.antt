@@ -12,38 +12,38 @@ pub returns-then-lacks_room : goal.returns-then-lacks_room
 unfolding room_in
 returns-then-lacks_room c =
     let short = room-short c.args.marks.now c.lay_out.ensures _ _ c.lacks_room.ensures c.if-lacks_room.true in
-    rw c.refuse.ensures (by-short _ _ c.lay_out.ensures c.n-1.given.1 short)
+    rw c.refuse.ensures (by-short _ _ c.lay_out.ensures c.in-Accepted.is short)
 
 pub mark_elements-selected-requires : goal.mark_elements-selected-requires
 unfolding room_in
 mark_elements-selected-requires c =
     let p = c.args in
     let h = room-enough c.args.marks.now c.lay_out.ensures _ _ c.lacks_room.ensures c.if-lacks_room.false in
-    let e = held p.marks.now c.lay_out.ensures c.n-1.given.1 h in
+    let e = held p.marks.now c.lay_out.ensures c.in-Accepted.is h in
     let room = room-for-within p.labels.now p.levels.now p.ups.now p.lefts.now p.marks.now _ h in
     (c.requires, ((_, columns-held e), (e.labels_room, e.ups_room, e.lefts_room, room.1)))
 
 pub overflow_cast-result : goal.overflow_cast-result
 unfolding room_in
 overflow_cast-result c =
-    let e = held c.args.marks.now c.lay_out.ensures c.n-1.given.1 (room-enough c.args.marks.now c.lay_out.ensures _ _ c.lacks_room.ensures c.if-lacks_room.false) in
+    let e = held c.args.marks.now c.lay_out.ensures c.in-Accepted.is (room-enough c.args.marks.now c.lay_out.ensures _ _ c.lacks_room.ensures c.if-lacks_room.false) in
     omega (arith, e.few)
 
 pub overflow_cast-result-in-Accepted : goal.overflow_cast-result-in-Accepted
 unfolding room_in
 overflow_cast-result-in-Accepted c =
-    let e = held c.args.marks.now c.lay_out.ensures c.n-1.given.1 (room-enough c.args.marks.now c.lay_out.ensures _ _ c.lacks_room.ensures c.if-lacks_room.false) in
+    let e = held c.args.marks.now c.lay_out.ensures c.in-Accepted.is (room-enough c.args.marks.now c.lay_out.ensures _ _ c.lacks_room.ensures c.if-lacks_room.false) in
     omega (arith, e.few, marked-few _ _ refl e.levels_room (c.mark_elements-selected.ensures _ (columns-held e)))
 
 pub refuse-requires-in-Refused : goal.refuse-requires-in-Refused
-refuse-requires-in-Refused c = rw (ap place_of (sym c.number-1.given.1 ∙ c.lay_out.ensures.read.answer)) (report-small _).place_in
+refuse-requires-in-Refused c = rw (ap place_of (sym c.in-Refused.is ∙ c.lay_out.ensures.read.answer)) (report-small _).place_in
 
 pub returns-else-lacks_room : goal.returns-else-lacks_room
 unfolding room_in
 returns-else-lacks_room c =
     let h = room-enough c.args.marks.now c.lay_out.ensures _ _ c.lacks_room.ensures c.if-lacks_room.false in
-    let e = held c.args.marks.now c.lay_out.ensures c.n-1.given.1 h in
-    by-room _ _ c.lay_out.ensures c.n-1.given.1 h (c.mark_elements-selected.ensures _ (columns-held e))
+    let e = held c.args.marks.now c.lay_out.ensures c.in-Accepted.is h in
+    by-room _ _ c.lay_out.ensures c.in-Accepted.is h (c.mark_elements-selected.ensures _ (columns-held e))
 
 pub returns-in-Refused : goal.returns-in-Refused
-returns-in-Refused c = rw c.refuse-in-Refused.ensures (by-refused _ _ c.lay_out.ensures c.number-1.given.1)
+returns-in-Refused c = rw c.refuse-in-Refused.ensures (by-refused _ _ c.lay_out.ensures c.in-Refused.is)

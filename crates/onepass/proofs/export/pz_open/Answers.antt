@@ -5,17 +5,17 @@ use borrow.Author.Rules.{rules}
 use Rattle.onepass.proofs.export.pz_open.Goals as goal
 
 pub open_step-requires : goal.open_step-requires
-open_step-requires c = accepted-some _ _ _ c.walk_rule-walked.ensures.answer_is c.answer-1.given.1
+open_step-requires c = accepted-some _ _ _ c.walk_rule-walked.ensures.answer_is c.in-Accepted.is
 
 pub overflow_cast-result : goal.overflow_cast-result
-overflow_cast-result c = omega (arith, refused-place _ _ _ _ c.walk_rule-walked.ensures.answer_is c.answer-in-Refused-1.given.1)
+overflow_cast-result c = omega (arith, refused-place _ _ _ _ c.walk_rule-walked.ensures.answer_is c.in-Refused.is)
 
 pub returns-in-Accepted : goal.returns-in-Accepted
 returns-in-Accepted c =
-    let r = opened-call _ _ _ _ _ _ _ _ c.words_of-words.ensures c.walk_rule-walked.ensures c.answer-1.given.1 c.open_step.ensures in
+    let r = opened-call _ _ _ _ _ _ _ _ c.words_of-words.ensures c.walk_rule-walked.ensures c.in-Accepted.is c.open_step.ensures in
     record { answer = r.0; state_is = r.1 }
 
 pub returns-in-Refused : goal.returns-in-Refused
 returns-in-Refused c =
-    let r = refused-call _ _ _ _ _ (sym c.walk_rule-walked.ensures.answer_is ∙ c.answer-in-Refused-1.given.1) in
+    let r = refused-call _ _ _ _ _ (sym c.walk_rule-walked.ensures.answer_is ∙ c.in-Refused.is) in
     record { answer = r.0; state_is = r.1 }

@@ -85,7 +85,7 @@ abbrev test-calls : ℕ → test-lts.Claims
 test-calls t = (begins-at-reads.Asked, begins-at-reads.Learnt, leaf-reads.Asked, leaf-reads.Learnt, test_below t, test.Post, except-reads.Asked, except-reads.Learnt, either-below t, either.Post, path-below t, path.Post, closing-reads.Asked, closing-reads.Learnt)
 
 either-add-test : (t : ℕ) → either-lts.Need-overflow-add-test (either-calls t) (either-at t) either.Post
-either-add-test t c = omega (arith, c.before.well-formed, (front c.before.args.s.now c.before.args.at 40 c.before.requires.1.3 (omega arith)).0)
+either-add-test t c = omega (arith, c.before.well_formed, (front c.before.args.s.now c.before.args.at 40 c.before.requires.1.3 (omega arith)).0)
 
 either-test-requires : (t : ℕ) → either-lts.Need-test-requires (either-calls t) (either-at t) either.Post
 either-test-requires t c κs = let l = (front c.before.before.args.s.now c.before.before.args.at 40 c.before.before.requires.1.3 (omega arith)).0 in (omega (arith, c.before.before.requires, l), (omega (arith, l), c.before.before.requires.1.1, omega (arith, c.before.before.requires.1.2)))
@@ -187,7 +187,7 @@ path-cast-from : (t : ℕ) → path-lts.Need-overflow-cast-from (path-calls t) (
 path-cast-from t c = search rules
 
 path-add-from : (t : ℕ) → path-lts.Need-overflow-add-from (path-calls t) (path-at t) path.Post path-Inv-loop path-μ-loop
-path-add-from t c = omega (arith, c.before.before.before.before.before.before.before.before.before.before.well-formed, (front c.before.before.before.before.before.before.before.before.before.before.args.s.now c.before.before.before.before.e.given.0.0 47 (sym c.before.before.byte_at.ensures ∙ c.if2.false) (omega arith)).0)
+path-add-from t c = omega (arith, c.before.before.before.before.before.before.before.before.before.before.well_formed, (front c.before.before.before.before.before.before.before.before.before.before.args.s.now c.before.before.before.before.e.given.0.0 47 (sym c.before.before.byte_at.ensures ∙ c.if2.false) (omega arith)).0)
 
 path-add-before : (t : ℕ) → path-lts.Need-overflow-add-before (path-calls t) (path-at t) path.Post path-Inv-loop path-μ-loop
 path-add-before t c = let y = (rw c.before.before.before.before.e.given.1 at c.before.before.before.before.before.before.step.ensures) in omega (arith, c.before.before.before.before.before.before.before.before.before.before.requires, c.before.before.before.before.before.before.before.before.loop.invariant.entries_fit, y.0.entries_fit, y.0.within)
@@ -220,7 +220,7 @@ step-enum-told : (t : ℕ) → step-lts.Need-enum-told (step-calls t) (step-at t
 step-enum-told t c = search rules
 
 step-add-test : (t : ℕ) → step-lts.Need-overflow-add-test (step-calls t) (step-at t) step.Post
-step-add-test t c = omega (arith, c.before.before.before.before.well-formed, (front c.before.before.before.before.args.s.now c.before.before.before.before.args.at 63 (rw c.enum_told.given.1 at (start-says c.before.before.before.before.args.s.now c.before.before.before.before.args.at c.before.before.before.before.requires.1.0 c.before.before.start-at.result c.before.before.start-at.ensures)) (omega arith)).0)
+step-add-test t c = omega (arith, c.before.before.before.before.well_formed, (front c.before.before.before.before.args.s.now c.before.before.before.before.args.at 63 (rw c.enum_told.given.1 at (start-says c.before.before.before.before.args.s.now c.before.before.before.before.args.at c.before.before.before.before.requires.1.0 c.before.before.start-at.result c.before.before.start-at.ensures)) (omega arith)).0)
 
 step-test-requires : (t : ℕ) → step-lts.Need-test-requires (step-calls t) (step-at t) step.Post
 step-test-requires t c κs = let l = (front c.before.before.before.before.before.args.s.now c.before.before.before.before.before.args.at 63 (rw c.before.enum_told.given.1 at (start-says c.before.before.before.before.before.args.s.now c.before.before.before.before.before.args.at c.before.before.before.before.before.requires.1.0 c.before.before.before.start-at.result c.before.before.before.start-at.ensures)) (omega arith)).0 in (omega (arith, c.before.before.before.before.before.requires, l), (omega (arith, l), c.before.before.before.before.before.requires.1.1, omega (arith, c.before.before.before.before.before.requires.1.2)))
@@ -289,7 +289,7 @@ test-enum-told-2 : (t : ℕ) → test-lts.Need-enum-told-2 (test-calls t) (test_
 test-enum-told-2 t c = search rules
 
 test-add-path : (t : ℕ) → test-lts.Need-overflow-add-path (test-calls t) (test_at t) test.Post
-test-add-path t c = omega (arith, c.before.before.before.before.well-formed, (front c.before.before.before.before.args.s.now c.before.before.before.before.args.at 60 (rw c.enum-told2.given.1 at (begins-says c.before.before.before.before.args.s.now c.before.before.before.before.args.at c.before.before.before.before.requires.1.0 c.before.before.before.before.args.after c.before.before.begins-at.result c.before.before.begins-at.ensures)) (omega arith)).0)
+test-add-path t c = omega (arith, c.before.before.before.before.well_formed, (front c.before.before.before.before.args.s.now c.before.before.before.before.args.at 60 (rw c.enum-told2.given.1 at (begins-says c.before.before.before.before.args.s.now c.before.before.before.before.args.at c.before.before.before.before.requires.1.0 c.before.before.before.before.args.after c.before.before.begins-at.result c.before.before.begins-at.ensures)) (omega arith)).0)
 
 test-add-path-2 : (t : ℕ) → test-lts.Need-overflow-add-path-2 (test-calls t) (test_at t) test.Post
 test-add-path-2 t c = omega (arith, c.before.before.before.before.requires)

@@ -4,13 +4,13 @@ use borrow.Author.Rules.{rules}
 use Rattle.parse.proofs.tree.closing.Goals as goal
 
 pub overflow_add-result : goal.overflow_add-result
-overflow_add-result c = omega (arith, small_of _ _ _ _ _ c.p-in-Done-1.given.1 c.requires)
+overflow_add-result c = omega (arith, small_of _ _ _ _ _ c.in-Done.is c.requires)
 
 pub overflow_add-result-in-Done : goal.overflow_add-result-in-Done
-overflow_add-result-in-Done c = omega (arith, small_of _ _ _ _ _ c.p-in-Done-1.given.1 c.requires)
+overflow_add-result-in-Done c = omega (arith, small_of _ _ _ _ _ c.in-Done.is c.requires)
 
 pub returns-in-Bad : goal.returns-in-Bad
-returns-in-Bad c = closing-bad _ _ c.p-1.given.1
+returns-in-Bad c = closing-bad _ _ c.in-Bad.is
 
 pub returns-in-Done : goal.returns-in-Done
-returns-in-Done c = closing-done _ _ _ _ _ c.p-in-Done-1.given.1
+returns-in-Done c = closing-done _ _ _ _ _ c.in-Done.is

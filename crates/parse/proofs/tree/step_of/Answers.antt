@@ -5,25 +5,25 @@ use borrow.Author.Rules.{rules}
 use Rattle.parse.proofs.tree.step_of.Goals as goal
 
 pub overflow_add-k : goal.overflow_add-k
-overflow_add-k c = omega (arith, c.requires, c.own_entries-own.ensures, entries-few c.args.form, small_of _ _ _ _ _ c.p-in-Done-1.given.1 c.requires.0)
+overflow_add-k c = omega (arith, c.requires, c.own_entries-own.ensures, entries-few c.args.form, small_of _ _ _ _ _ c.in-Done.is c.requires.0)
 
 pub overflow_add-k-in-Done : goal.overflow_add-k-in-Done
-overflow_add-k-in-Done c = omega (arith, c.requires, c.own_entries-own.ensures, entries-few c.args.form, small_of _ _ _ _ _ c.p-in-Done-1.given.1 c.requires.0)
+overflow_add-k-in-Done c = omega (arith, c.requires, c.own_entries-own.ensures, entries-few c.args.form, small_of _ _ _ _ _ c.in-Done.is c.requires.0)
 
 pub overflow_add-k-in-Done-2 : goal.overflow_add-k-in-Done-2
-overflow_add-k-in-Done-2 c = omega (arith, c.requires, c.own_entries-own.ensures, entries-few c.args.form, small_of _ _ _ _ _ c.p-in-Done-1.given.1 c.requires.0)
+overflow_add-k-in-Done-2 c = omega (arith, c.requires, c.own_entries-own.ensures, entries-few c.args.form, small_of _ _ _ _ _ c.in-Done.is c.requires.0)
 
 pub note_row-requires : goal.note_row-requires
 note_row-requires c = omega (arith, c.own_entries-own.ensures, entries-few c.args.form)
 
 pub overflow_add-result : goal.overflow_add-result
-overflow_add-result c = omega (arith, c.requires, c.own_entries-own.ensures, entries-few c.args.form, small_of _ _ _ _ _ c.p-in-Done-1.given.1 c.requires.0)
+overflow_add-result c = omega (arith, c.requires, c.own_entries-own.ensures, entries-few c.args.form, small_of _ _ _ _ _ c.in-Done.is c.requires.0)
 
 pub overflow_add-result-in-Done : goal.overflow_add-result-in-Done
-overflow_add-result-in-Done c = omega (arith, c.requires, c.own_bytes.ensures, entries-few c.args.form, bytes-few c.args.form, small_of _ _ _ _ _ c.p-in-Done-1.given.1 c.requires.0)
+overflow_add-result-in-Done c = omega (arith, c.requires, c.own_bytes.ensures, entries-few c.args.form, bytes-few c.args.form, small_of _ _ _ _ _ c.in-Done.is c.requires.0)
 
 pub returns-in-Bad : goal.returns-in-Bad
-returns-in-Bad c = step-bad _ _ c.p-1.given.1 _ _ _ _ _
+returns-in-Bad c = step-bad _ _ c.in-Bad.is _ _ _ _ _
 
 pub returns-in-Done : goal.returns-in-Done
-returns-in-Done c = step-done _ _ _ _ _ c.p-in-Done-1.given.1 _ _ _ _ _ _ _ c.own_entries-own.ensures c.own_bytes.ensures c.note_row.ensures
+returns-in-Done c = step-done _ _ _ _ _ c.in-Done.is _ _ _ _ _ _ _ c.own_entries-own.ensures c.own_bytes.ensures c.note_row.ensures

@@ -12,7 +12,7 @@ overflow_cast-result c =
     omega (
       arith,
       (report-small c.args.report.now).count_within,
-      ap count_of (sym c.answer-1.given.1 ∙ c.read_report-answer.ensures),
+      ap count_of (sym c.in-Accepted.is ∙ c.read_report-answer.ensures),
     )
 
 pub overflow_cast-result-in-Refused : goal.overflow_cast-result-in-Refused
@@ -20,11 +20,11 @@ overflow_cast-result-in-Refused c =
     omega (
       arith,
       (report-small c.args.report.now).place_in,
-      ap place_of (sym c.answer-in-Refused-1.given.1 ∙ c.read_report-answer.ensures),
+      ap place_of (sym c.in-Refused.is ∙ c.read_report-answer.ensures),
     )
 
 pub returns-in-Accepted : goal.returns-in-Accepted
-returns-in-Accepted c = ap report_reply (sym c.answer-1.given.1 ∙ c.read_report-answer.ensures)
+returns-in-Accepted c = ap report_reply (sym c.in-Accepted.is ∙ c.read_report-answer.ensures)
 
 pub returns-in-Refused : goal.returns-in-Refused
-returns-in-Refused c = ap report_reply (sym c.answer-in-Refused-1.given.1 ∙ c.read_report-answer.ensures)
+returns-in-Refused c = ap report_reply (sym c.in-Refused.is ∙ c.read_report-answer.ensures)

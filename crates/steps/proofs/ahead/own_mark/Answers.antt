@@ -3,7 +3,7 @@ use borrow.Author.Rules.{rules}
 use Rattle.steps.proofs.ahead.own_mark.Goals as goal
 
 pub returns-in-Until : goal.returns-in-Until
-returns-in-Until c = rw c.enum_told-1.given.1
+returns-in-Until c = rw c.in-Until.is
 
 pub returns-in-Every : goal.returns-in-Every
-returns-in-Every c = rw c.enum_told-in-Every-1.given.1
+returns-in-Every c = rw c.in-Every.is

@@ -5,16 +5,16 @@ use Rattle.steps.proofs.column.column.Goals as goal
 
 pub returns-in-Child : goal.returns-in-Child
 unfolding column_of
-returns-in-Child c = rw c.enum_told-1.given.1
+returns-in-Child c = rw c.in-Child.is
 
 pub returns-in-Parent : goal.returns-in-Parent
 unfolding column_of
-returns-in-Parent c = rw c.enum_told-in-Parent-1.given.1
+returns-in-Parent c = rw c.in-Parent.is
 
 pub returns-in-Next : goal.returns-in-Next
 unfolding column_of
-returns-in-Next c = rw c.enum_told-in-Next-1.given.1
+returns-in-Next c = rw c.in-Next.is
 
 pub returns-in-Previous : goal.returns-in-Previous
 unfolding column_of
-returns-in-Previous c = rw c.enum_told-in-Previous-1.given.1
+returns-in-Previous c = rw c.in-Previous.is

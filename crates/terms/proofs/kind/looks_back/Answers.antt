@@ -5,20 +5,20 @@ use Rattle.terms.proofs.kind.looks_back.Goals as goal
 
 pub returns-in-Nothing : goal.returns-in-Nothing
 unfolding shape_looks_back
-returns-in-Nothing c = rw c.enum_told-1.given.1
+returns-in-Nothing c = rw c.in-Nothing.is
 
 pub returns-in-Here : goal.returns-in-Here
 unfolding shape_looks_back
-returns-in-Here c = rw c.enum_told-in-Here-1.given.1
+returns-in-Here c = rw c.in-Here.is
 
 pub returns-in-SomeAlong : goal.returns-in-SomeAlong
 unfolding shape_looks_back
-returns-in-SomeAlong c = rw (c.leads_back.ensures, c.shape-1.given.1)
+returns-in-SomeAlong c = rw (c.leads_back.ensures, c.in-SomeAlong.is)
 
 pub returns-in-UntilAlong : goal.returns-in-UntilAlong
 unfolding shape_looks_back
-returns-in-UntilAlong c = rw (c.leads_back-in-UntilAlong.ensures, c.shape-in-UntilAlong-1.given.1)
+returns-in-UntilAlong c = rw (c.leads_back-in-UntilAlong.ensures, c.in-UntilAlong.is)
 
 pub returns-in-EveryChild : goal.returns-in-EveryChild
 unfolding shape_looks_back
-returns-in-EveryChild c = rw c.enum_told-in-EveryChild-1.given.1
+returns-in-EveryChild c = rw c.in-EveryChild.is

@@ -5,16 +5,16 @@ use Rattle.walk.proofs.step.word_to.Goals as goal
 
 pub returns-in-Parent : goal.returns-in-Parent
 unfolding word_to
-returns-in-Parent c = rw c.enum_told-1.given.1
+returns-in-Parent c = rw c.in-Parent.is
 
 pub returns-in-Previous : goal.returns-in-Previous
 unfolding word_to
-returns-in-Previous c = rw c.enum_told-in-Previous-1.given.1
+returns-in-Previous c = rw c.in-Previous.is
 
 pub returns-in-Child : goal.returns-in-Child
 unfolding word_to
-returns-in-Child c = rw c.enum_told-in-Child-1.given.1
+returns-in-Child c = rw c.in-Child.is
 
 pub returns-in-Next : goal.returns-in-Next
 unfolding word_to
-returns-in-Next c = rw c.enum_told-in-Next-1.given.1
+returns-in-Next c = rw c.in-Next.is

@@ -4,7 +4,7 @@ use borrow.Author.Rules.{rules}
 use Rattle.words.proofs.begins.named_at.Goals as goal
 
 pub returns-in-Missing : goal.returns-in-Missing
-returns-in-Missing c = rw c.p-1.given.1 at (ap (named_of c.args.kind) c.fixed_at.ensures)
+returns-in-Missing c = rw c.in-Missing.is at (ap (named_of c.args.kind) c.fixed_at.ensures)
 
 pub returns-in-At : goal.returns-in-At
-returns-in-At c = rw c.e-1.given.1 at (ap (named_of c.args.kind) c.fixed_at.ensures)
+returns-in-At c = rw c.in-At.is at (ap (named_of c.args.kind) c.fixed_at.ensures)

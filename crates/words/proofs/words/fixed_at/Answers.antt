@@ -4,10 +4,10 @@ use borrow.Author.Rules.{rules}
 use Rattle.words.proofs.words.fixed_at.Goals as goal
 
 pub overflow_add-result : goal.overflow_add-result
-overflow_add-result c = omega (arith, c.well-formed, c.agreed-k.ensures, agree-fits c.args.word.now c.args.s.now c.args.at)
+overflow_add-result c = omega (arith, c.well_formed, c.agreed-k.ensures, agree-fits c.args.word.now c.args.s.now c.args.at)
 
 pub overflow_add-result-else-k-word : goal.overflow_add-result-else-k-word
-overflow_add-result-else-k-word c = omega (arith, c.well-formed, c.agreed-k.ensures, agree-fits c.args.word.now c.args.s.now c.args.at)
+overflow_add-result-else-k-word c = omega (arith, c.well_formed, c.agreed-k.ensures, agree-fits c.args.word.now c.args.s.now c.args.at)
 
 pub returns-then-k-word : goal.returns-then-k-word
 returns-then-k-word c = word-whole c.args.word.now c.args.s.now c.args.at c.agreed-k.result c.agreed-k.ensures c.if-k-word.true
