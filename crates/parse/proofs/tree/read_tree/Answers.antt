@@ -9,7 +9,7 @@ pub read_sized-requires : goal.read_sized-requires
 read_sized-requires c = (sized-so c.args.s.now c.if-s.false).few
 
 pub returns-in-Text : goal.returns-in-Text
-returns-in-Text c = tree-text c.args.s.now (sized-so c.args.s.now c.if-s.false) c.read_sized.result _ c.read_sized.ensures c.n-1.given.0.0 c.n-1.given.0.1.0 c.in-Text.is
+returns-in-Text c = tree-text c.args.s.now (sized-so c.args.s.now c.if-s.false) c.read_sized.result _ c.read_sized.ensures c.in-Text.n c.in-Text.b c.in-Text.is
 
 pub returns-in-Stopped : goal.returns-in-Stopped
-returns-in-Stopped c = tree-stopped c.args.s.now (sized-so c.args.s.now c.if-s.false) c.read_sized.result _ c.read_sized.ensures c.p-1.given.0.0 c.in-Stopped.is
+returns-in-Stopped c = tree-stopped c.args.s.now (sized-so c.args.s.now c.if-s.false) c.read_sized.result _ c.read_sized.ensures c.in-Stopped.p c.in-Stopped.is

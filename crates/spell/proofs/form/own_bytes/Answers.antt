@@ -17,4 +17,4 @@ pub returns-in-10-to-13 : goal.returns-in-10-to-13
 returns-in-10-to-13 c = bytes-twelve c.args.form (omega arith) (omega arith)
 
 pub returns-in_default : goal.returns-in_default
-returns-in_default c = bytes-fourteen c.args.form (omega arith) c.in_default-1.rest.1
+returns-in_default c = bytes-fourteen c.args.form (omega arith) c.in_default.in_default-own.rest.1

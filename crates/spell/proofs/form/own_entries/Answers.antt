@@ -10,4 +10,4 @@ pub returns-in-0-to-9 : goal.returns-in-0-to-9
 returns-in-0-to-9 c = entries-one c.args.form (omega arith)
 
 pub returns-in_default : goal.returns-in_default
-returns-in_default c = entries-two c.args.form (omega arith) c.in_default-1.rest.1
+returns-in_default c = entries-two c.args.form (omega arith) c.in_default.in_default-own.rest.1

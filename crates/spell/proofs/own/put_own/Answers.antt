@@ -23,7 +23,7 @@ put_star-requires c =
 
 pub put_beside-requires : goal.put_beside-requires
 put_beside-requires c =
-    let h = c.in_default-1.rest.1 in
+    let h = c.in_default.in_default-own.rest.1 in
     let e = own-beside c.args.form c.args.argument c.args.n c.if-form-lt10.false c.if-form-lt14.false h in
     (omega (arith, c.if-form-lt10.false), room_as (ap rule_bytes e) c.requires.1)
 
@@ -44,6 +44,6 @@ returns-in-10-to-13 c =
 
 pub returns-in_default : goal.returns-in_default
 returns-in_default c =
-    let h = c.in_default-1.rest.1 in
+    let h = c.in_default.in_default-own.rest.1 in
     let e = own-beside c.args.form c.args.argument c.args.n c.if-form-lt10.false c.if-form-lt14.false h in
     spelt-as (ap rule_bytes e) c.put_beside.ensures

@@ -16,6 +16,6 @@ returns-then-s-at-lt4 c =
 pub returns-in_default : goal.returns-in_default
 returns-in_default c =
     let (b, small) = c.broken_tag-in_default.ensures in
-    let r = c.in_default.rest in
+    let r = c.in_default.in_default-own.rest in
     let n = c.number_at-kind.ensures.0 in
     (b ∙ record-unknown _ _ _ _ 0 (length_none _ _ (λ e. r.0.1 (n ∙ e)) (λ e. r.1 (n ∙ e))) (omega arith) refl, small)

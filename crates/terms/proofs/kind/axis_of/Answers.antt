@@ -27,7 +27,7 @@ returns-in-2 c = sym (ap axis_of c.in-2.is)
 pub returns-in_default : goal.returns-in_default
 unfolding axis_of
 returns-in_default c =
-    let r = c.in_default.rest in
+    let r = c.in_default.in_default-own.rest in
     let z : 0 ≤ c.args.n = omega arith in
     let l : 3 ≤ c.args.n = range-past (range-past (range-past z r.0.0.1) r.0.1) r.1 in
     sym (get_or-eq_default (Child ∷ Parent ∷ Next ∷ []) Previous l)

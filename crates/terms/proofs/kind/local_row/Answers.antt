@@ -29,6 +29,6 @@ returns-in-4 c = sym (ap row_of c.in-4.is)
 pub returns-in_default : goal.returns-in_default
 unfolding row_of numbers_of local_numbers
 returns-in_default c =
-    let r = c.in_default.rest in
+    let r = c.in_default.in_default-own.rest in
     let l = past (past (past (past c.requires.0 r.0.0.0.1) r.0.0.1) r.0.1) r.1 in
     let e : c.args.kind ≡ 5 = omega (arith, l, c.requires.1) in sym (ap row_of e)

@@ -5,7 +5,7 @@ use borrow.Author.Rules.{rules}
 use Rattle.words.proofs.begins.label_of.Goals as goal
 
 pub overflow_add-result : goal.overflow_add-result
-overflow_add-result c = omega (arith, c.well_formed, c.numeral_at-n.ensures, digits-fit c.args.s.now c.w-in-At-1.given.0.0)
+overflow_add-result c = omega (arith, c.well_formed, c.numeral_at-n.ensures, digits-fit c.args.s.now c.in-At.e)
 
 pub returns-in-Missing : goal.returns-in-Missing
 returns-in-Missing c = rw c.in-Missing.is
