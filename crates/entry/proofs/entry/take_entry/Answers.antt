@@ -17,7 +17,7 @@ pub returns-then-s-at : goal.returns-then-s-at
 returns-then-s-at c = let f = c.faulty-then-s-at.ensures in (f.0 ∙ taken-faulty _ _ _ _ (rule-few _ _ _ c.if-own-ge-ENTRIES_MOST.false (omega (arith, c.if-s-at.true, c.if-s-lt4.false))) (λ z. omega arith), f.1, f.2, f.3)
 
 pub entry_of-requires : goal.entry_of-requires
-entry_of-requires c = rule-room _ c.args.own_val _ _ (c.row_of-row.ensures ∙ ap row_of c.number_at.ensures.0) (sym c.in-Whole.is ∙ c.frame_of.ensures)
+entry_of-requires c = rule-room _ c.args.own _ _ (c.row_of-row.ensures ∙ ap row_of c.number_at.ensures.0) (sym c.in-Whole.is ∙ c.frame_of.ensures)
 
 pub overflow_add-at-in-Whole-2 : goal.overflow_add-at-in-Whole-2
 overflow_add-at-in-Whole-2 c = let st = whole-stands _ _ _ (sym (sym c.in-Whole.is ∙ c.frame_of.ensures)) in omega (arith, st.ends)

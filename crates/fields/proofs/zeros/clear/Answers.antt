@@ -21,13 +21,12 @@ pub loop-i-smaller : goal.loop-i-smaller
 loop-i-smaller c = omega arith
 
 pub loop-i-preserved : goal.loop-i-preserved
-loop-i-preserved c =
-    (
-      rw c.loop-i.invariant.0 (fill_more c.loop-i.i 0
-          c.args.state.now (omega arith)),
-      omega arith,
-      simp length-set c.loop-i.invariant.2,
-    )
+loop-i-preserved c = (
+  rw c.loop-i.invariant.0 (fill_more c.loop-i.i 0
+      c.args.state.now (omega arith)),
+  omega arith,
+  simp length-set c.loop-i.invariant.2,
+)
 
 pub shape_of-state : goal.shape_of-state
 shape_of-state c = c.loop-i.invariant.2

@@ -8,7 +8,7 @@ pub link_first-requires : goal.link_first-requires
 unfolding room_in
 link_first-requires c =
     let r = laid-ready c.args.ups.now c.args.lefts.now c.read_elements-answer.ensures c.in-Accepted.is _ c.least_of_four.ensures c.if-n-least_of_four.true in
-    (r.0, (r.1, r.2, r.3))
+    record { legal_levels = r.0; n_in_bounds = (r.1, r.2, r.3) }
 
 pub returns-then-n-least_of_four : goal.returns-then-n-least_of_four
 unfolding room_in

@@ -18,7 +18,11 @@ pub link-requires : goal.link-requires
 link-requires c =
     let p = c.requires in
     let n = sym (length-take-le _ _ p.n_in_bounds.0) in
-    (p.legal_levels, (length-take-le _ _ p.n_in_bounds.1 ∙ n, length-take-le _ _ p.n_in_bounds.2 ∙ n))
+    record {
+      legal_levels = p.legal_levels;
+      ups_len = (length-take-le _ _ p.n_in_bounds.1 ∙ n, length-take-le _ _ p.n_in_bounds.2 ∙ n);
+    }
 
 pub returns : goal.returns
-returns c = let p = c.requires.n_in_bounds in linked-first _ _ _ _ p.legal_levels p.n_in_bounds p.2 c.link.ensures
+returns c = let p = c.requires.n_in_bounds in
+    let r = linked-first _ _ _ _ p.0 p.1 p.2 c.link.ensures in record { ups_after = r.0; lefts_after = r.1 }

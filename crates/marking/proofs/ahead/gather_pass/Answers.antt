@@ -10,7 +10,7 @@ use native.Mathlib.Omega.{arith}
 use Rattle.marking.proofs.ahead.gather_pass.Goals as goal
 
 pub loop-s-init : goal.loop-s-init
-loop-s-init c = (omega arith, gather-start _ _ _ c.requires.room.0)
+loop-s-init c = (omega arith, gather-start _ _ _ c.requires.room)
 
 pub offset_bounds-f-s : goal.offset_bounds-f-s
 offset_bounds-f-s c = omega arith
@@ -25,16 +25,16 @@ pub bounds-marks-s : goal.bounds-marks-s
 bounds-marks-s c = omega arith
 
 pub offset_bounds-marks-p : goal.offset_bounds-marks-p
-offset_bounds-marks-p c = omega (arith, c.wide-p.ensures.0, c.requires.room.1 c.loop-s.s c.loop-s-test.true)
+offset_bounds-marks-p c = omega (arith, c.wide-p.ensures.0, c.requires.by_index c.loop-s.s c.loop-s-test.true)
 
 pub bounds-marks-p : goal.bounds-marks-p
-bounds-marks-p c = omega (arith, c.wide-p.ensures.0, c.requires.room.1 c.loop-s.s c.loop-s-test.true)
+bounds-marks-p c = omega (arith, c.wide-p.ensures.0, c.requires.by_index c.loop-s.s c.loop-s-test.true)
 
 pub offset_bounds-marks-p-in-loop-s : goal.offset_bounds-marks-p-in-loop-s
-offset_bounds-marks-p-in-loop-s c = omega (arith, c.wide-p.ensures.0, c.requires.room.1 c.loop-s.s c.loop-s-test.true)
+offset_bounds-marks-p-in-loop-s c = omega (arith, c.wide-p.ensures.0, c.requires.by_index c.loop-s.s c.loop-s-test.true)
 
 pub bounds-marks-p-in-loop-s : goal.bounds-marks-p-in-loop-s
-bounds-marks-p-in-loop-s c = omega (arith, c.wide-p.ensures.0, c.requires.room.1 c.loop-s.s c.loop-s-test.true)
+bounds-marks-p-in-loop-s c = omega (arith, c.wide-p.ensures.0, c.requires.by_index c.loop-s.s c.loop-s-test.true)
 
 pub overflow_add-s : goal.overflow_add-s
 overflow_add-s c = omega arith
@@ -48,9 +48,9 @@ loop-s-preserved c =
     let pre = c.requires in
     let t = c.loop-s-test.true in (
       omega arith,
-      rw (c.put_low_bit.ensures, mod-eq_of_lt c.bit_where-given.ensures.1, c.bit_where-given.ensures.0, c.wide-p.ensures.0, own_in pre.room.0, earlier-in pre.room.0 pre.a_lt_i)
-          (gather-turn _ _ _ pre.room.0 pre.a_lt_i l.s t (pre.room.1 l.s t) l.invariant.1),
+      rw (c.put_low_bit.ensures, mod-eq_of_lt c.bit_where-given.ensures.1, c.bit_where-given.ensures.0, c.wide-p.ensures.0, own_in pre.room, earlier-in pre.room pre.a_lt_i)
+          (gather-turn _ _ _ pre.room pre.a_lt_i l.s t (pre.by_index l.s t) l.invariant.1),
     )
 
 pub returns : goal.returns
-returns c = let l = c.loop-s in gather-end _ _ _ c.requires.room.0 l.s (omega arith) l.invariant.1
+returns c = let l = c.loop-s in gather-end _ _ _ c.requires.room l.s (omega arith) l.invariant.1

@@ -9,25 +9,29 @@ use borrow.Author.Rules.{rules}
 use Rattle.marking.proofs.elements.mark_elements.Goals as goal
 
 pub slice_bounds-words-end-2 : goal.slice_bounds-words-end-2
-slice_bounds-words-end-2 c = sym (length-take-le _ _ c.requires.by_index.1.3)
+slice_bounds-words-end-2 c = sym (length-take-le _ _ c.requires.n_in_bounds.3)
 
 pub slice_bounds-mark_entries-end : goal.slice_bounds-mark_entries-end
-slice_bounds-mark_entries-end c = sym (length-take-le _ _ c.requires.by_index.1.0)
+slice_bounds-mark_entries-end c = sym (length-take-le _ _ c.requires.n_in_bounds.0)
 
 pub slice_bounds-mark_entries-end-2 : goal.slice_bounds-mark_entries-end-2
-slice_bounds-mark_entries-end-2 c = sym (length-take-le _ _ c.requires.by_index.1.1)
+slice_bounds-mark_entries-end-2 c = sym (length-take-le _ _ c.requires.n_in_bounds.1)
 
 pub slice_bounds-mark_entries-end-3 : goal.slice_bounds-mark_entries-end-3
-slice_bounds-mark_entries-end-3 c = sym (length-take-le _ _ c.requires.by_index.1.2)
+slice_bounds-mark_entries-end-3 c = sym (length-take-le _ _ c.requires.n_in_bounds.2)
 
 pub mark_entries-requires : goal.mark_entries-requires
 mark_entries-requires c =
     let p = c.args in
     let q = c.requires in
-    let k = q.by_index.0.1 in
-    let n = length-take-le p.n p.labels.now q.by_index.1.0 in
-    let m = length-take-le p.n p.marks.now q.by_index.1.3 in
-    (q.rule_entries, (clear_room (length (take p.n p.marks.now)) c.clear.ensures (m ∙ sym n) (omega (arith, k.long, k.legal.few)), q.by_index.0))
+    let k = q.by_index.1 in
+    let n = length-take-le p.n p.labels.now q.n_in_bounds.0 in
+    let m = length-take-le p.n p.marks.now q.n_in_bounds.3 in
+    record {
+      rule_entries = q.rule_entries;
+      room = clear_room (length (take p.n p.marks.now)) c.clear.ensures (m ∙ sym n) (omega (arith, k.long, k.legal.few));
+      by_index = q.by_index;
+    }
 
 pub overflow_sub-entries : goal.overflow_sub-entries
 overflow_sub-entries c =
@@ -39,8 +43,8 @@ pub returns : goal.returns
 returns c = λ levels columns.
     let p = c.args in
     let q = c.requires in
-    let n = sym (length-take-le p.n p.labels.now q.by_index.1.0) ∙ columns.long in
-    let m = length-take-le p.n p.marks.now q.by_index.1.3 in
+    let n = sym (length-take-le p.n p.labels.now q.n_in_bounds.0) ∙ columns.long in
+    let m = length-take-le p.n p.marks.now q.n_in_bounds.3 in
     let z = c.clear.ensures in
-    marked-first levels (take p.n p.labels.now) _ p.n _ n q.by_index.1.3 (ap length z ∙ length-replicate _ _ ∙ m) (c.mark_entries.ensures levels columns)
+    marked-first levels (take p.n p.labels.now) _ p.n _ n q.n_in_bounds.3 (ap length z ∙ length-replicate _ _ ∙ m) (c.mark_entries.ensures levels columns)
     (rw (← table-last p.entries p.table.now q.rule_entries) c.count_with_bit.ensures)

@@ -11,7 +11,7 @@ use Rattle.marking.proofs.local.label_pass.Given as goal
 
 abbrev pub invariant-loop-s : goal.invariant-loop-s
 invariant-loop-s l =
-    (l.s ≤ length l.labels) × Passed (length l.labels) l.i (before-only (λ l.s. eqb (get_or l.labels l.s 0) l.label) l.s) l.initial.marks l.marks
+    (l.s ≤ length l.labels) × Passed (length l.labels) l.i (before-only (λ t. eqb (get_or l.labels t 0) l.label) l.s) l.initial.marks l.marks
 
 abbrev pub decreases-loop-s : goal.decreases-loop-s
 decreases-loop-s l = length l.labels - l.s

@@ -11,7 +11,7 @@ use Rattle.marking.proofs.passes.mark_entries.Goals as goal
 
 pub loop-i-init : goal.loop-i-init
 loop-i-init c =
-    (omega arith, λ levels columns. words-start levels c.args.labels.now _ (rw columns.long at c.requires.room.0))
+    (omega arith, λ levels columns. words-start levels c.args.labels.now _ (rw columns.long at c.requires.room))
 
 pub overflow_mul-i : goal.overflow_mul-i
 overflow_mul-i c = let p = c.args in omega (arith, c.loop-i-test.true, (table-few p.entries p.table.now c.requires.rule_entries).1)
@@ -56,7 +56,11 @@ mark_entry-requires c =
     let h = table-few p.entries p.table.now q.rule_entries in
     let f = table_fits p.entries p.table.now q.rule_entries l.i t in
     rw (c.wide-in-loop-i-2.ensures.0, c.wide-in-loop-i.ensures.0, row)
-    (f, (words-room q.room.1.0 p.labels.now _ q.room.1.1 q.room.0 (omega arith) (l.invariant.1 q.room.1.0 q.room.1.1), q.room.1))
+    record {
+      a_lt_i = f;
+      room = words-room q.by_index.0 p.labels.now _ q.by_index.1 q.room (omega arith) (l.invariant.1 q.by_index.0 q.by_index.1);
+      by_index = q.by_index;
+    }
 
 pub overflow_add-i-in-loop-i-2 : goal.overflow_add-i-in-loop-i-2
 overflow_add-i-in-loop-i-2 c = omega (arith, c.loop-i-test.true, c.ranges)
@@ -75,7 +79,7 @@ loop-i-preserved c =
     (omega arith, λ levels columns. table-turn p.entries p.table.now q.rule_entries l.i t levels p.labels.now (l.invariant.1 levels columns) (e levels columns))
 
 pub shape_of-marks : goal.shape_of-marks
-shape_of-marks c = let k = c.requires.room.1 in search (rules, (c.loop-i.invariant.1 k.0 k.1).long)
+shape_of-marks c = let k = c.requires.by_index in search (rules, (c.loop-i.invariant.1 k.0 k.1).long)
 
 pub returns : goal.returns
 returns c =

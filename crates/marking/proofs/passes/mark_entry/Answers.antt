@@ -11,29 +11,36 @@ pub local_pass-requires : goal.local_pass-requires
 unfolding numbers_of
 local_pass-requires c =
     let p = c.requires in
-    (λ h. p.a_lt_i (rw c.in-Here.is h), p.room.0)
+    record { a_lt_i = λ h. p.a_lt_i (rw c.in-Here.is h); room = p.room }
 
 pub along_pass-requires : goal.along_pass-requires
 unfolding numbers_of
 along_pass-requires c =
     let p = c.requires in
-    (p.a_lt_i (rw c.in-SomeAlong.is refl), column-room p.room.1.1 _ _ c.column.ensures p.room.0)
+    (let r = column-room p.by_index.1 _ _ c.column.ensures p.room in
+    record { a_lt_i = p.a_lt_i (rw c.in-SomeAlong.is refl); room = r.0; by_index = r.1 })
 
 pub along_pass-requires-in-UntilAlong : goal.along_pass-requires-in-UntilAlong
 unfolding numbers_of
 along_pass-requires-in-UntilAlong c =
     let p = c.requires in
-    (p.a_lt_i (rw c.in-UntilAlong.is refl), column-room p.room.1.1 _ _ c.column-in-UntilAlong.ensures p.room.0)
+    (let r = column-room p.by_index.1 _ _ c.column-in-UntilAlong.ensures p.room in
+    record { a_lt_i = p.a_lt_i (rw c.in-UntilAlong.is refl); room = r.0; by_index = r.1 })
 
 pub turn_pass-requires : goal.turn_pass-requires
 unfolding numbers_of column_of
 turn_pass-requires c =
     let p = c.requires in
-    let r = column-room p.room.1.1 Child _ refl p.room.0 in
-    (p.a_lt_i (rw c.in-EveryChild.is refl), (r.0, (r.1, ups-nearest p.room.1.1)))
+    let r = column-room p.by_index.1 Child _ refl p.room in
+    record {
+      a_lt_i = p.a_lt_i (rw c.in-EveryChild.is refl);
+      room = r.0;
+      by_index = r.1;
+      nearest = ups-nearest p.by_index.1;
+    }
 
 pub returns-in-Nothing : goal.returns-in-Nothing
-returns-in-Nothing c = let p = c.requires in λ levels columns. passed-nothing columns _ _ p.room.0 c.in-Nothing.is
+returns-in-Nothing c = let p = c.requires in λ levels columns. passed-nothing columns _ _ p.room c.in-Nothing.is
 
 pub returns-in-Here : goal.returns-in-Here
 returns-in-Here c = λ levels columns. passed-local columns _ _ _ c.in-Here.is c.local_pass.ensures

@@ -21,7 +21,11 @@ mark_elements-selected-requires c =
     let h = room-enough c.args.marks.now c.lay_out.ensures _ _ c.lacks_room.ensures c.if-lacks_room.false in
     let e = held p.marks.now c.lay_out.ensures c.in-Accepted.is h in
     let room = room-for-within p.labels.now p.levels.now p.ups.now p.lefts.now p.marks.now _ h in
-    (c.requires, ((_, columns-held e), (e.labels_room, e.ups_room, e.lefts_room, room.1)))
+    record {
+      rule_entries = c.requires;
+      by_index = (_, columns-held e);
+      n_in_bounds = (e.labels_room, e.ups_room, e.lefts_room, room.1);
+    }
 
 pub overflow_cast-result : goal.overflow_cast-result
 unfolding room_in

@@ -2,4 +2,4 @@ use borrow.Author.Rules.{rules}
 use Rattle.reports.proofs.elements.put_opened.Goals as goal
 
 pub returns-then-opens : goal.returns-then-opens
-returns-then-opens c = rw c.if-opens.true (c.put.ensures, c.put-then-opens.ensures)
+returns-then-opens c = rw c.if-opens.true record { labels_after = c.put.ensures; levels_after = c.put-then-opens.ensures }

@@ -14,18 +14,18 @@ put_down-requires c =
 
 pub put_record-requires : goal.put_record-requires
 put_record-requires c =
-    room_as (own-one c.args.form c.args.argument c.args.n (omega (arith, c.if-form-lt10.true)) c.last.ensures) c.requires.1
+    room_as (own-one c.args.form c.args.argument c.args.n (omega (arith, c.in-0-to-9.if-form-lt10-own.true)) c.last.ensures) c.requires.1
 
 pub put_star-requires : goal.put_star-requires
 put_star-requires c =
-    let e = own-star c.args.form c.args.argument c.args.n c.if-form-lt10.false (omega (arith, c.if-form-lt14.true)) in
+    let e = own-star c.args.form c.args.argument c.args.n c.in-10-to-13.if-form-lt10-own.false (omega (arith, c.in-10-to-13.if-form-lt14-own.true)) in
     room_as (ap rule_bytes e) c.requires.1
 
 pub put_beside-requires : goal.put_beside-requires
 put_beside-requires c =
     let h = c.in_default.in_default-own.rest.1 in
-    let e = own-beside c.args.form c.args.argument c.args.n c.if-form-lt10.false c.if-form-lt14.false h in
-    (omega (arith, c.if-form-lt10.false), room_as (ap rule_bytes e) c.requires.1)
+    let e = own-beside c.args.form c.args.argument c.args.n c.in_default.if-form-lt10-own.false c.in_default.if-form-lt14-own.false h in
+    (omega (arith, c.in_default.if-form-lt10-own.false), room_as (ap rule_bytes e) c.requires.1)
 
 pub returns-in-14 : goal.returns-in-14
 returns-in-14 c =
@@ -34,16 +34,16 @@ returns-in-14 c =
 
 pub returns-in-0-to-9 : goal.returns-in-0-to-9
 returns-in-0-to-9 c =
-    let e = own-one c.args.form c.args.argument c.args.n (omega (arith, c.if-form-lt10.true)) c.last.ensures in
+    let e = own-one c.args.form c.args.argument c.args.n (omega (arith, c.in-0-to-9.if-form-lt10-own.true)) c.last.ensures in
     spelt-as e c.put_record.ensures
 
 pub returns-in-10-to-13 : goal.returns-in-10-to-13
 returns-in-10-to-13 c =
-    let e = own-star c.args.form c.args.argument c.args.n c.if-form-lt10.false (omega (arith, c.if-form-lt14.true)) in
+    let e = own-star c.args.form c.args.argument c.args.n c.in-10-to-13.if-form-lt10-own.false (omega (arith, c.in-10-to-13.if-form-lt14-own.true)) in
     spelt-as (ap rule_bytes e) c.put_star.ensures
 
 pub returns-in_default : goal.returns-in_default
 returns-in_default c =
     let h = c.in_default.in_default-own.rest.1 in
-    let e = own-beside c.args.form c.args.argument c.args.n c.if-form-lt10.false c.if-form-lt14.false h in
+    let e = own-beside c.args.form c.args.argument c.args.n c.in_default.if-form-lt10-own.false c.in_default.if-form-lt14-own.false h in
     spelt-as (ap rule_bytes e) c.put_beside.ensures

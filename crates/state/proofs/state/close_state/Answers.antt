@@ -6,6 +6,7 @@ use Rattle.state.specs.State.{state_of}
 use Rattle.state.proofs.NumberLaws.{closes-fine, tested-long, number-bad, number-fault, close-refused, close-taken}
 use borrow.Author.Rules.{rules}
 use Rattle.state.proofs.state.close_state.Goals as goal
+use Rattle.state.proofs.state.close_state.Goals.{After-close_fault-number}
 
 -- What `close_fault` gives is the closing's number.
 number : (c : After-close_fault-number) → c.close_fault-number.result ≡ state_number c.args.state.now closes
@@ -21,17 +22,17 @@ number_at-d-requires c = omega (arith, tested-long _ _ c.bad_state.ensures c.if-
 
 pub overflow_sub-d : goal.overflow_sub-d
 overflow_sub-d c =
-    let r = closes-fine _ (sym (number c) ∙ c.if-number-eq0.true) in
+    let r = closes-fine _ (sym (number (goal.at.overflow_sub-d c).After-close_fault-number) ∙ c.if-number-eq0.true) in
     omega (arith, r.1, c.number_at-d.ensures.0)
 
 pub store_closing-requires : goal.store_closing-requires
 store_closing-requires c =
-    let r = closes-fine _ (sym (number c) ∙ c.if-number-eq0.true) in
+    let r = closes-fine _ (sym (number (goal.at.store_closing-requires c).After-close_fault-number) ∙ c.if-number-eq0.true) in
     (r.0, omega (arith, r.1, r.2, c.number_at-d.ensures.0))
 
 pub returns-then-number-eq0 : goal.returns-then-number-eq0
 returns-then-number-eq0 c =
-    close-taken _ _ _ _ (number c) c.if-number-eq0.true c.number_at-d.ensures.0 c.store_closing.ensures
+    close-taken _ _ _ _ (number (goal.at.returns-then-number-eq0 c).After-close_fault-number) c.if-number-eq0.true c.number_at-d.ensures.0 c.store_closing.ensures
 
 pub returns-else-number-eq0 : goal.returns-else-number-eq0
-returns-else-number-eq0 c = close-refused _ _ (number c) c.if-number-eq0.false
+returns-else-number-eq0 c = close-refused _ _ (number (goal.at.returns-else-number-eq0 c).After-close_fault-number) c.if-number-eq0.false

@@ -6,6 +6,7 @@ use Rattle.state.specs.State.{state_of}
 use Rattle.state.proofs.NumberLaws.{opens-fine, tested-long, number-bad, number-fault, open-refused, open-taken}
 use borrow.Author.Rules.{rules}
 use Rattle.state.proofs.state.open_state.Goals as goal
+use Rattle.state.proofs.state.open_state.Goals.{After-open_fault-fault}
 
 -- What `open_fault` gives is the opening's number.
 number : (c : After-open_fault-fault) → c.open_fault-fault.result ≡ state_number c.args.state.now (opens c.args.label)
@@ -28,12 +29,12 @@ number_at-root-requires c = omega (arith, tested-long _ _ c.bad_state.ensures c.
 
 pub store_opening-requires : goal.store_opening-requires
 store_opening-requires c =
-    let r = opens-fine _ _ (sym (number c) ∙ c.if-fault-eq0.true) in
+    let r = opens-fine _ _ (sym (number (goal.at.store_opening-requires c).After-open_fault-fault) ∙ c.if-fault-eq0.true) in
     (r.0, omega (arith, r.1, c.number_at-d.ensures.0), omega (arith, r.2, c.number_at-elements.ensures.0))
 
 pub returns-then-fault-eq0 : goal.returns-then-fault-eq0
 returns-then-fault-eq0 c =
-    open-taken _ _ _ _ _ _ _ (number c) c.if-fault-eq0.true c.number_at-d.ensures.0 c.number_at-elements.ensures.0 c.store_opening.ensures
+    open-taken _ _ _ _ _ _ _ (number (goal.at.returns-then-fault-eq0 c).After-open_fault-fault) c.if-fault-eq0.true c.number_at-d.ensures.0 c.number_at-elements.ensures.0 c.store_opening.ensures
 
 pub returns-else-fault-eq0 : goal.returns-else-fault-eq0
-returns-else-fault-eq0 c = open-refused _ _ _ _ (number c) c.if-fault-eq0.false
+returns-else-fault-eq0 c = open-refused _ _ _ _ (number (goal.at.returns-else-fault-eq0 c).After-open_fault-fault) c.if-fault-eq0.false

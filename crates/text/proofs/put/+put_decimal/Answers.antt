@@ -22,7 +22,7 @@ returns-then-x-lt10 t c = rw (decimal-one c.args.x c.if-x-lt10.true) (put_one _ 
 
 pub put_decimal-last-requires : goal.put_decimal-last-requires
 put_decimal-last-requires t c =
-    (omega (arith, c.requires.0), omega (arith, decimal-longer c.args.x c.if-x-lt10.false))
+    omega (arith, decimal-longer c.args.x c.if-x-lt10.false)
 
 pub overflow_add-out-2 : goal.overflow_add-out-2
 overflow_add-out-2 t c = omega arith

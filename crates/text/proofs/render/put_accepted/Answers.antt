@@ -23,5 +23,5 @@ returns c =
     let h = c.put_word-first.ensures in
     let e = c.put_elements-end.ensures in
     let k = c.at_most-elements.ensures.0 in
-    accepted-rendered _ _ _ a.selected k h e.0 c.put_phrase.ensures
+    accepted-rendered _ _ _ a.selected k h e.put c.put_phrase.ensures
     (omega (arith, c.put_phrase.ensures.next_is, phrase-short (ascii "selected ") (ascii "of ") a.selected n (omega arith) (omega arith)))

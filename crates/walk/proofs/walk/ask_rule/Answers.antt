@@ -12,6 +12,7 @@ use Rattle.walk.proofs.WalkLaws.{AskMid, ahead-then, ask-done, ask-none}
 use Rattle.rules.proofs.EntryLaws.{halts-ended, halts-faulty, entries_none, entries-many}
 use Rattle.numbers.specs.Lists.{listed}
 use Rattle.walk.proofs.walk.ask_rule.Goals as goal
+use Rattle.walk.proofs.walk.ask_rule.Goals.{Else-taken-ne0}
 
 -- After the test of the record in hand: it is taken.
 onward : (c : Else-taken-ne0) → Onward c.args.rule.now c.loop-at.n c.loop-at.at c.take_entry-taken.result
@@ -31,12 +32,12 @@ pub overflow_add-n : goal.overflow_add-n
 overflow_add-n c = omega (arith, c.loop-at.invariant.few)
 
 pub loop-at-smaller : goal.loop-at-smaller
-loop-at-smaller c = let o = onward c in omega (arith, o.on, o.within)
+loop-at-smaller c = let o = onward (goal.at.loop-at-smaller c).Else-taken-ne0 in omega (arith, o.on, o.within)
 
 pub loop-at-preserved : goal.loop-at-preserved
 loop-at-preserved c =
     let m = c.loop-at.invariant in
-    let o = onward c in
+    let o = onward (goal.at.loop-at-preserved c).Else-taken-ne0 in
     let is = ap (λ (x : Row). x.shape) c.row_of-row.ensures in
     record { mid = o.mid; few = omega (arith, o.few); ahead_so = ahead-then _ m.mid _ _ _ _ o.entry-is is m.ahead_so c.looks_back-back.ensures }
 

@@ -14,6 +14,7 @@ use borrow.Author.Rules.{rules}
 use Rattle.rules.proofs.EntryLaws.{halts-ended, halts-faulty, entries_none, entries-many}
 use Rattle.numbers.specs.Lists.{listed}
 use Rattle.walk.proofs.walk.walk_rule.Goals as goal
+use Rattle.walk.proofs.walk.walk_rule.Goals.{Else-taken-ne0}
 
 -- After the test of the record in hand: it is taken.
 onward : (c : Else-taken-ne0) → Onward c.args.rule.now c.loop-at.n c.loop-at.at c.take_entry-taken.result
@@ -30,18 +31,18 @@ unfolding looks_ahead step_word listed
 loop-at-init c = record { mid = mid_start _ _; few = omega arith; ahead_so = refl; word_so = refl }
 
 pub add_bit-w-requires : goal.add_bit-w-requires
-add_bit-w-requires c = (omega (arith, (onward c).few), rw c.loop-at.invariant.word_so (step_small _ _ _ _ c.loop-at.n))
+add_bit-w-requires c = (omega (arith, (onward (goal.at.add_bit-w-requires c).Else-taken-ne0).few), rw c.loop-at.invariant.word_so (step_small _ _ _ _ c.loop-at.n))
 
 pub overflow_add-n : goal.overflow_add-n
 overflow_add-n c = omega (arith, c.loop-at.invariant.few)
 
 pub loop-at-smaller : goal.loop-at-smaller
-loop-at-smaller c = let o = onward c in omega (arith, o.on, o.within)
+loop-at-smaller c = let o = onward (goal.at.loop-at-smaller c).Else-taken-ne0 in omega (arith, o.on, o.within)
 
 pub loop-at-preserved : goal.loop-at-preserved
 loop-at-preserved c =
     let m = c.loop-at.invariant in
-    let o = onward c in
+    let o = onward (goal.at.loop-at-preserved c).Else-taken-ne0 in
     let is = ap (λ (x : Row). x.shape) c.row_of-row.ensures in
     record {
       mid = o.mid;
