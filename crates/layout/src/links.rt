@@ -14,7 +14,7 @@ const HELD: usize = 66;
 // first child will look for a previous sibling, so that no turn has a branch.
 pub(crate) fn link(levels: &[u16], ups: &mut [u16], lefts: &mut [u16])
     requires legal_levels { LegalLevels levels.now }
-    requires ups_len { (length ups.old ≡ length levels.now) × (length lefts.old ≡ length levels.now) }
+    requires as_long { (length ups.old ≡ length levels.now) × (length lefts.old ≡ length levels.now) }
     ensures { Linked levels.now ups.new lefts.new }
 {
     let mut held = [0u16; HELD];

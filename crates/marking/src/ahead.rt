@@ -21,9 +21,9 @@ pub(crate) fn turn_pass(
     f: &[u16],
     marks: &mut [u64],
 )
-    requires a_lt_i { (a < i) × (b < i) }
+    requires earlier { (a < i) × (b < i) }
     requires room { Room (length f.now) i marks.old }
-    requires by_index { (s : ℕ) → s < length f.now → get_or f.now s 0 ≤ s }
+    requires not_past { (s : ℕ) → s < length f.now → get_or f.now s 0 ≤ s }
     requires nearest { Nearest asked f.now }
     ensures { Passed (length f.now) i (ahead_mark asked (length f.now) (leads f.now) (bits_of marks.old a) (bits_of marks.old b)) marks.old marks.new }
 {
@@ -43,9 +43,9 @@ pub(crate) fn turn_pass(
 // Entry i at every element, where each gives a bit that stands there before the pass, and its mark is what
 // it has gathered. So there are no turns: from the first on, no element reads what was just stored.
 pub(crate) fn gather_pass(a: usize, i: usize, f: &[u16], marks: &mut [u64])
-    requires a_lt_i { a < i }
+    requires earlier { a < i }
     requires room { Room (length f.now) i marks.old }
-    requires by_index { (s : ℕ) → s < length f.now → get_or f.now s 0 ≤ s }
+    requires not_past { (s : ℕ) → s < length f.now → get_or f.now s 0 ≤ s }
     ensures { Passed (length f.now) i (some_of forward (length f.now) (leads f.now) (bits_of marks.old a)) marks.old marks.new }
 {
     let mut s: usize = 0;

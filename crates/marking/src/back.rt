@@ -10,9 +10,9 @@ use steps::back::back_word;
 
 // Entry i at every element, from the first on: each has its mark before one that leads to it.
 pub(crate) fn back_pass(until: bool, a: usize, b: usize, i: usize, f: &[u16], marks: &mut [u64])
-    requires a_lt_i { (a < i) × (b < i) }
+    requires earlier { (a < i) × (b < i) }
     requires room { Room (length f.now) i marks.old }
-    requires by_index { (s : ℕ) → s < length f.now → get_or f.now s 0 ≤ s }
+    requires not_past { (s : ℕ) → s < length f.now → get_or f.now s 0 ≤ s }
     ensures { Passed (length f.now) i (along_mark until backward (length f.now) (leads f.now) (bits_of marks.old a) (bits_of marks.old b)) marks.old marks.new }
 {
     let mut s: usize = 0;

@@ -21,7 +21,7 @@ pub(crate) fn mark_elements<'a>(
     marks: &mut [u64],
 ) -> usize
     requires rule_entries { RuleEntries (entries_in entries table.now) }
-    requires by_index { (levels : List ℕ) × Columns levels (take n labels.now) (take n ups.now) (take n lefts.now) }
+    requires columns { (levels : List ℕ) × Columns levels (take n labels.now) (take n ups.now) (take n lefts.now) }
     requires n_in_bounds { (n ≤ length labels.now) × (n ≤ length ups.now) × (n ≤ length lefts.now) × (n ≤ length marks.old) }
     ensures { (levels : List ℕ) → Columns levels (take n labels.now) (take n ups.now) (take n lefts.now) → Marked (entries_in entries table.now) levels (take n labels.now) marks.old result marks.new }
 {

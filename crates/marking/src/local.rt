@@ -32,7 +32,7 @@ pub(crate) fn local_pass(
     labels: &[u16],
     marks: &mut [u64],
 )
-    requires a_lt_i { local_numbers asked ≡ Entries → (a < i) × (b < i) }
+    requires earlier { local_numbers asked ≡ Entries → (a < i) × (b < i) }
     requires room { Room (length labels.now) i marks.old }
     ensures { Passed (length labels.now) i (λ s. means_here asked a (get_or labels.now s 0) (bits_of marks.old a s) (bits_of marks.old b s)) marks.old marks.new }
 {

@@ -22,9 +22,9 @@ use terms::kind::{Axis, Shape, leads_back, row_of};
 // Entry i at every element along an axis, by its column: at some neighbour, or at the end of a way. What
 // is back goes from the first element on; ahead, ways go from the last on.
 fn along_pass(until: bool, x: Axis, a: usize, b: usize, i: usize, f: &[u16], marks: &mut [u64])
-    requires a_lt_i { (a < i) × (b < i) }
+    requires earlier { (a < i) × (b < i) }
     requires room { Room (length f.now) i marks.old }
-    requires by_index { (s : ℕ) → s < length f.now → get_or f.now s 0 ≤ s }
+    requires not_past { (s : ℕ) → s < length f.now → get_or f.now s 0 ≤ s }
     ensures { Passed (length f.now) i (along_mark «until» (direction x) (length f.now) (leads f.now) (bits_of marks.old a) (bits_of marks.old b)) marks.old marks.new }
 {
     if leads_back(x) {
@@ -49,9 +49,9 @@ fn mark_entry<'a>(
     lefts: &'a [u16],
     marks: &mut [u64],
 )
-    requires a_lt_i { numbers_of shape ≡ Entries → (a < i) × (b < i) }
+    requires earlier { numbers_of shape ≡ Entries → (a < i) × (b < i) }
     requires room { Room (length labels.now) i marks.old }
-    requires by_index { (levels : List ℕ) × Columns levels labels.now ups.now lefts.now }
+    requires columns { (levels : List ℕ) × Columns levels labels.now ups.now lefts.now }
     ensures { (levels : List ℕ) → Columns levels labels.now ups.now lefts.now → Passed (length levels) i (means levels labels.now shape a (bits_of marks.old a) (bits_of marks.old b)) marks.old marks.new }
 {
     match shape {
@@ -74,7 +74,7 @@ pub(crate) fn mark_entries<'a>(
 )
     requires rule_entries { RuleEntries (entries_in entries table.now) }
     requires room { Room (length labels.now) 0 marks.old }
-    requires by_index { (levels : List ℕ) × Columns levels labels.now ups.now lefts.now }
+    requires columns { (levels : List ℕ) × Columns levels labels.now ups.now lefts.now }
     ensures { (levels : List ℕ) → Columns levels labels.now ups.now lefts.now → Stored (length levels) (word_of (entries_in entries table.now) levels labels.now) marks.old marks.new }
 {
     let mut i: usize = 0;

@@ -56,7 +56,7 @@ fn broken_tag() -> TakenTag
 // Takes a record of kind 1, with 4 bytes or more left.
 fn take_opening(s: &[u8], at: usize, depth: usize, elements: usize) -> TakenTag
     requires at_in_bounds { at + 4 ≤ length s.now }
-    requires at_value { kind_at s.now at ≡ 1 }
+    requires of_kind { kind_at s.now at ≡ 1 }
     ensures { (result ≡ tag_taken s.now at depth elements) × (result.label < 65536) }
 {
     if number_at(s, at) != 4 {
@@ -76,7 +76,7 @@ fn take_opening(s: &[u8], at: usize, depth: usize, elements: usize) -> TakenTag
 // Takes a record of kind 2, with 4 bytes or more left.
 fn take_closing(s: &[u8], at: usize, depth: usize, elements: usize) -> TakenTag
     requires at_in_bounds { at + 4 ≤ length s.now }
-    requires at_value { kind_at s.now at ≡ 2 }
+    requires of_kind { kind_at s.now at ≡ 2 }
     ensures { (result ≡ tag_taken s.now at depth elements) × (result.label < 65536) }
 {
     if number_at(s, at) != 2 {

@@ -47,7 +47,7 @@ fn put_elements(
 ) -> usize
     requires { (elements ≤ elements_most) × (at + 19 * elements ≤ buffer_size) }
     ensures put { Put (table_lines labels.now levels.now marks.now last elements) out.old at result out.new }
-    ensures upper_bound { result ≤ at + 19 * elements }
+    ensures ends { result ≤ at + 19 * elements }
 {
     let mut next = at;
     let mut i: usize = 0;

@@ -20,7 +20,7 @@ link-requires c =
     let n = sym (length-take-le _ _ p.n_in_bounds.0) in
     record {
       legal_levels = p.legal_levels;
-      ups_len = (length-take-le _ _ p.n_in_bounds.1 ∙ n, length-take-le _ _ p.n_in_bounds.2 ∙ n);
+      as_long = (length-take-le _ _ p.n_in_bounds.1 ∙ n, length-take-le _ _ p.n_in_bounds.2 ∙ n);
     }
 
 pub returns : goal.returns

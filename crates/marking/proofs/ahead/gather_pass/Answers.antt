@@ -25,16 +25,16 @@ pub bounds-marks-s : goal.bounds-marks-s
 bounds-marks-s c = omega arith
 
 pub offset_bounds-marks-p : goal.offset_bounds-marks-p
-offset_bounds-marks-p c = omega (arith, c.wide-p.ensures.0, c.requires.by_index c.loop-s.s c.loop-s-test.true)
+offset_bounds-marks-p c = omega (arith, c.wide-p.ensures.0, c.requires.not_past c.loop-s.s c.loop-s-test.true)
 
 pub bounds-marks-p : goal.bounds-marks-p
-bounds-marks-p c = omega (arith, c.wide-p.ensures.0, c.requires.by_index c.loop-s.s c.loop-s-test.true)
+bounds-marks-p c = omega (arith, c.wide-p.ensures.0, c.requires.not_past c.loop-s.s c.loop-s-test.true)
 
 pub offset_bounds-marks-p-in-loop-s : goal.offset_bounds-marks-p-in-loop-s
-offset_bounds-marks-p-in-loop-s c = omega (arith, c.wide-p.ensures.0, c.requires.by_index c.loop-s.s c.loop-s-test.true)
+offset_bounds-marks-p-in-loop-s c = omega (arith, c.wide-p.ensures.0, c.requires.not_past c.loop-s.s c.loop-s-test.true)
 
 pub bounds-marks-p-in-loop-s : goal.bounds-marks-p-in-loop-s
-bounds-marks-p-in-loop-s c = omega (arith, c.wide-p.ensures.0, c.requires.by_index c.loop-s.s c.loop-s-test.true)
+bounds-marks-p-in-loop-s c = omega (arith, c.wide-p.ensures.0, c.requires.not_past c.loop-s.s c.loop-s-test.true)
 
 pub overflow_add-s : goal.overflow_add-s
 overflow_add-s c = omega arith
@@ -48,8 +48,8 @@ loop-s-preserved c =
     let pre = c.requires in
     let t = c.loop-s-test.true in (
       omega arith,
-      rw (c.put_low_bit.ensures, mod-eq_of_lt c.bit_where-given.ensures.1, c.bit_where-given.ensures.0, c.wide-p.ensures.0, own_in pre.room, earlier-in pre.room pre.a_lt_i)
-          (gather-turn _ _ _ pre.room pre.a_lt_i l.s t (pre.by_index l.s t) l.invariant.1),
+      rw (c.put_low_bit.ensures, mod-eq_of_lt c.bit_where-given.ensures.1, c.bit_where-given.ensures.0, c.wide-p.ensures.0, own_in pre.room, earlier-in pre.room pre.earlier)
+          (gather-turn _ _ _ pre.room pre.earlier l.s t (pre.not_past l.s t) l.invariant.1),
     )
 
 pub returns : goal.returns

@@ -33,16 +33,16 @@ pub bounds-f-t : goal.bounds-f-t
 bounds-f-t c = omega arith
 
 pub offset_bounds-marks-next : goal.offset_bounds-marks-next
-offset_bounds-marks-next c = omega (arith, c.wide-next.ensures.0, c.requires.by_index (c.loop-t.t - 1) (omega arith))
+offset_bounds-marks-next c = omega (arith, c.wide-next.ensures.0, c.requires.not_past (c.loop-t.t - 1) (omega arith))
 
 pub bounds-marks-next : goal.bounds-marks-next
-bounds-marks-next c = simp length-set (omega (arith, c.wide-next.ensures.0, c.requires.by_index (c.loop-t.t - 1) (omega arith)))
+bounds-marks-next c = simp length-set (omega (arith, c.wide-next.ensures.0, c.requires.not_past (c.loop-t.t - 1) (omega arith)))
 
 pub offset_bounds-marks-next-in-loop-t : goal.offset_bounds-marks-next-in-loop-t
-offset_bounds-marks-next-in-loop-t c = omega (arith, c.wide-next.ensures.0, c.requires.by_index (c.loop-t.t - 1) (omega arith))
+offset_bounds-marks-next-in-loop-t c = omega (arith, c.wide-next.ensures.0, c.requires.not_past (c.loop-t.t - 1) (omega arith))
 
 pub bounds-marks-next-in-loop-t : goal.bounds-marks-next-in-loop-t
-bounds-marks-next-in-loop-t c = simp length-set (omega (arith, c.wide-next.ensures.0, c.requires.by_index (c.loop-t.t - 1) (omega arith)))
+bounds-marks-next-in-loop-t c = simp length-set (omega (arith, c.wide-next.ensures.0, c.requires.not_past (c.loop-t.t - 1) (omega arith)))
 
 pub loop-t-smaller : goal.loop-t-smaller
 loop-t-smaller c = omega arith
@@ -52,8 +52,8 @@ loop-t-preserved c =
     let l = c.loop-t in
     let pre = c.requires in
     let h : l.t - 1 < length c.args.f.now = omega arith in
-    rw (c.put_bit.ensures, c.given_at-given.ensures, c.low_with_bit.ensures, c.own_at-own.ensures, c.wide-next.ensures.0, own_in pre.room, earlier-in pre.room pre.a_lt_i.0, earlier-in pre.room pre.a_lt_i.1)
-    (ahead-turn _ _ _ _ _ pre.room pre.a_lt_i.0 pre.a_lt_i.1 pre.nearest (l.t - 1) h (ahead_before _ _ _ _ _ (omega arith) l.invariant) (pre.by_index (l.t - 1) h))
+    rw (c.put_bit.ensures, c.given_at-given.ensures, c.low_with_bit.ensures, c.own_at-own.ensures, c.wide-next.ensures.0, own_in pre.room, earlier-in pre.room pre.earlier.0, earlier-in pre.room pre.earlier.1)
+    (ahead-turn _ _ _ _ _ pre.room pre.earlier.0 pre.earlier.1 pre.nearest (l.t - 1) h (ahead_before _ _ _ _ _ (omega arith) l.invariant) (pre.not_past (l.t - 1) h))
 
 pub returns : goal.returns
 returns c =

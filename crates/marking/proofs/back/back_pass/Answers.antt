@@ -21,10 +21,10 @@ pub bounds-f-s : goal.bounds-f-s
 bounds-f-s c = omega arith
 
 pub offset_bounds-marks-p : goal.offset_bounds-marks-p
-offset_bounds-marks-p c = omega (arith, c.wide-p.ensures.0, c.requires.by_index c.loop-s.s c.loop-s-test.true)
+offset_bounds-marks-p c = omega (arith, c.wide-p.ensures.0, c.requires.not_past c.loop-s.s c.loop-s-test.true)
 
 pub bounds-marks-p : goal.bounds-marks-p
-bounds-marks-p c = omega (arith, c.wide-p.ensures.0, c.requires.by_index c.loop-s.s c.loop-s-test.true)
+bounds-marks-p c = omega (arith, c.wide-p.ensures.0, c.requires.not_past c.loop-s.s c.loop-s-test.true)
 
 pub offset_bounds-marks-s : goal.offset_bounds-marks-s
 offset_bounds-marks-s c = omega arith
@@ -50,8 +50,8 @@ loop-s-preserved c =
     let pre = c.requires in
     let t = c.loop-s-test.true in (
       omega arith,
-      rw (c.back_word.ensures, c.wide-p.ensures.0, own_in pre.room, earlier-in pre.room pre.a_lt_i.0, earlier-in pre.room pre.a_lt_i.1)
-          (ascent-turn pre.room _ l.s _ t (back-turn c.args.f.now _ _ _ l.s pre.room pre.a_lt_i.0 pre.a_lt_i.1 t (pre.by_index l.s t) l.invariant.1) l.invariant.1),
+      rw (c.back_word.ensures, c.wide-p.ensures.0, own_in pre.room, earlier-in pre.room pre.earlier.0, earlier-in pre.room pre.earlier.1)
+          (ascent-turn pre.room _ l.s _ t (back-turn c.args.f.now _ _ _ l.s pre.room pre.earlier.0 pre.earlier.1 t (pre.not_past l.s t) l.invariant.1) l.invariant.1),
     )
 
 pub returns : goal.returns

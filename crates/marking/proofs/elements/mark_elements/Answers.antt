@@ -24,13 +24,13 @@ pub mark_entries-requires : goal.mark_entries-requires
 mark_entries-requires c =
     let p = c.args in
     let q = c.requires in
-    let k = q.by_index.1 in
+    let k = q.columns.1 in
     let n = length-take-le p.n p.labels.now q.n_in_bounds.0 in
     let m = length-take-le p.n p.marks.now q.n_in_bounds.3 in
     record {
       rule_entries = q.rule_entries;
       room = clear_room (length (take p.n p.marks.now)) c.clear.ensures (m ∙ sym n) (omega (arith, k.long, k.legal.few));
-      by_index = q.by_index;
+      columns = q.columns;
     }
 
 pub overflow_sub-entries : goal.overflow_sub-entries

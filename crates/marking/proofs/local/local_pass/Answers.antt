@@ -17,12 +17,12 @@ returns-in-HasLabel c = passed-same c.requires.room (λ s h. rw c.in-HasLabel.is
 
 pub returns-in-Negation : goal.returns-in-Negation
 unfolding means_here local_numbers
-returns-in-Negation c = let p = c.requires in let h = p.a_lt_i (rw c.in-Negation.is refl) in passed-same p.room (λ s l. rw (c.in-Negation.is, c.not_gate.ensures) (gate-not _ _ ∙ rw (earlier-in p.room h.0))) (passed-gate _ p.room c.gate_pass-in-Negation.ensures)
+returns-in-Negation c = let p = c.requires in let h = p.earlier (rw c.in-Negation.is refl) in passed-same p.room (λ s l. rw (c.in-Negation.is, c.not_gate.ensures) (gate-not _ _ ∙ rw (earlier-in p.room h.0))) (passed-gate _ p.room c.gate_pass-in-Negation.ensures)
 
 pub returns-in-Disjunction : goal.returns-in-Disjunction
 unfolding means_here local_numbers
-returns-in-Disjunction c = let p = c.requires in let h = p.a_lt_i (rw c.in-Disjunction.is refl) in passed-same p.room (λ s l. rw (c.in-Disjunction.is, c.or_gate.ensures) (gate-or _ _ _ ∙ rw (earlier-in p.room h.0, earlier-in p.room h.1))) (passed-gate _ p.room c.gate_pass-in-Disjunction.ensures)
+returns-in-Disjunction c = let p = c.requires in let h = p.earlier (rw c.in-Disjunction.is refl) in passed-same p.room (λ s l. rw (c.in-Disjunction.is, c.or_gate.ensures) (gate-or _ _ _ ∙ rw (earlier-in p.room h.0, earlier-in p.room h.1))) (passed-gate _ p.room c.gate_pass-in-Disjunction.ensures)
 
 pub returns-in-Conjunction : goal.returns-in-Conjunction
 unfolding means_here local_numbers
-returns-in-Conjunction c = let p = c.requires in let h = p.a_lt_i (rw c.in-Conjunction.is refl) in passed-same p.room (λ s l. rw (c.in-Conjunction.is, c.and_gate.ensures) (gate-and _ _ _ ∙ rw (earlier-in p.room h.0, earlier-in p.room h.1))) (passed-gate _ p.room c.gate_pass-in-Conjunction.ensures)
+returns-in-Conjunction c = let p = c.requires in let h = p.earlier (rw c.in-Conjunction.is refl) in passed-same p.room (λ s l. rw (c.in-Conjunction.is, c.and_gate.ensures) (gate-and _ _ _ ∙ rw (earlier-in p.room h.0, earlier-in p.room h.1))) (passed-gate _ p.room c.gate_pass-in-Conjunction.ensures)

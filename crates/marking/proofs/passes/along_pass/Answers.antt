@@ -7,7 +7,7 @@ use Rattle.marking.proofs.passes.along_pass.Goals as goal
 
 pub turn_pass-requires : goal.turn_pass-requires
 unfolding Nearest
-turn_pass-requires c = let p = c.requires in record { a_lt_i = p.a_lt_i; room = p.room; by_index = p.by_index; nearest = tt }
+turn_pass-requires c = let p = c.requires in record { earlier = p.earlier; room = p.room; not_past = p.not_past; nearest = tt }
 
 pub returns-then-leads_back : goal.returns-then-leads_back
 unfolding direction

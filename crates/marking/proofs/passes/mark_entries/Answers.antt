@@ -57,9 +57,9 @@ mark_entry-requires c =
     let f = table_fits p.entries p.table.now q.rule_entries l.i t in
     rw (c.wide-in-loop-i-2.ensures.0, c.wide-in-loop-i.ensures.0, row)
     record {
-      a_lt_i = f;
-      room = words-room q.by_index.0 p.labels.now _ q.by_index.1 q.room (omega arith) (l.invariant.1 q.by_index.0 q.by_index.1);
-      by_index = q.by_index;
+      earlier = f;
+      room = words-room q.columns.0 p.labels.now _ q.columns.1 q.room (omega arith) (l.invariant.1 q.columns.0 q.columns.1);
+      columns = q.columns;
     }
 
 pub overflow_add-i-in-loop-i-2 : goal.overflow_add-i-in-loop-i-2
@@ -79,7 +79,7 @@ loop-i-preserved c =
     (omega arith, λ levels columns. table-turn p.entries p.table.now q.rule_entries l.i t levels p.labels.now (l.invariant.1 levels columns) (e levels columns))
 
 pub shape_of-marks : goal.shape_of-marks
-shape_of-marks c = let k = c.requires.by_index in search (rules, (c.loop-i.invariant.1 k.0 k.1).long)
+shape_of-marks c = let k = c.requires.columns in search (rules, (c.loop-i.invariant.1 k.0 k.1).long)
 
 pub returns : goal.returns
 returns c =

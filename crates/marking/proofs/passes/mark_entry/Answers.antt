@@ -11,32 +11,32 @@ pub local_pass-requires : goal.local_pass-requires
 unfolding numbers_of
 local_pass-requires c =
     let p = c.requires in
-    record { a_lt_i = λ h. p.a_lt_i (rw c.in-Here.is h); room = p.room }
+    record { earlier = λ h. p.earlier (rw c.in-Here.is h); room = p.room }
 
 pub along_pass-requires : goal.along_pass-requires
 unfolding numbers_of
 along_pass-requires c =
     let p = c.requires in
-    (let r = column-room p.by_index.1 _ _ c.column.ensures p.room in
-    record { a_lt_i = p.a_lt_i (rw c.in-SomeAlong.is refl); room = r.0; by_index = r.1 })
+    (let r = column-room p.columns.1 _ _ c.column.ensures p.room in
+    record { earlier = p.earlier (rw c.in-SomeAlong.is refl); room = r.0; not_past = r.1 })
 
 pub along_pass-requires-in-UntilAlong : goal.along_pass-requires-in-UntilAlong
 unfolding numbers_of
 along_pass-requires-in-UntilAlong c =
     let p = c.requires in
-    (let r = column-room p.by_index.1 _ _ c.column-in-UntilAlong.ensures p.room in
-    record { a_lt_i = p.a_lt_i (rw c.in-UntilAlong.is refl); room = r.0; by_index = r.1 })
+    (let r = column-room p.columns.1 _ _ c.column-in-UntilAlong.ensures p.room in
+    record { earlier = p.earlier (rw c.in-UntilAlong.is refl); room = r.0; not_past = r.1 })
 
 pub turn_pass-requires : goal.turn_pass-requires
 unfolding numbers_of column_of
 turn_pass-requires c =
     let p = c.requires in
-    let r = column-room p.by_index.1 Child _ refl p.room in
+    let r = column-room p.columns.1 Child _ refl p.room in
     record {
-      a_lt_i = p.a_lt_i (rw c.in-EveryChild.is refl);
+      earlier = p.earlier (rw c.in-EveryChild.is refl);
       room = r.0;
-      by_index = r.1;
-      nearest = ups-nearest p.by_index.1;
+      not_past = r.1;
+      nearest = ups-nearest p.columns.1;
     }
 
 pub returns-in-Nothing : goal.returns-in-Nothing

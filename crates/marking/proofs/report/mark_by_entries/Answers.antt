@@ -23,7 +23,7 @@ mark_elements-selected-requires c =
     let room = room-for-within p.labels.now p.levels.now p.ups.now p.lefts.now p.marks.now _ h in
     record {
       rule_entries = c.requires;
-      by_index = (_, columns-held e);
+      columns = (_, columns-held e);
       n_in_bounds = (e.labels_room, e.ups_room, e.lefts_room, room.1);
     }
 

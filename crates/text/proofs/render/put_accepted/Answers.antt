@@ -12,7 +12,7 @@ put_phrase-requires c =
     let a = c.args in
     let n = c.at_most-elements.result in
     let h = c.put_word-first.ensures.next_is in
-    let e = c.put_elements-end.ensures.upper_bound in
+    let e = c.put_elements-end.ensures.ends in
     omega (arith, phrase-short (ascii "selected ") (ascii "of ") a.selected n (omega arith) (omega arith))
 
 pub returns : goal.returns

@@ -69,5 +69,5 @@ loop-i-preserved c =
 pub returns : goal.returns
 returns c = record {
   put = elements-all _ _ _ c.loop-i.invariant.0 c.loop-i-test.false c.loop-i.invariant.1.1;
-  upper_bound = omega arith;
+  ends = omega arith;
 }
