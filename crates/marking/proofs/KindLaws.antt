@@ -20,7 +20,7 @@ use Rattle.terms.specs.declared.kind.Axis.TheVariants.{Child as child, Parent as
 use Rattle.meaning.specs.Tree.{direction}
 use Rattle.meaning.specs.Links.{link}
 use Rattle.terms.specs.declared.kind.Shape.{Shape}
-use Rattle.terms.specs.declared.kind.Shape.TheVariants.{Nothing as nothing, Here as here, SomeAlong as someAlong, UntilAlong as untilAlong, EveryChild as everyChild}
+use Rattle.terms.specs.declared.kind.Shape.TheVariants.{Nothing as nothing, Here as here, SomeAlong as some_along, UntilAlong as until_along, EveryChild as every_child}
 use Rattle.terms.specs.declared.kind.Local.{Local}
 use Rattle.terms.specs.declared.kind.Numbers.TheVariants.{Entries}
 use Rattle.terms.specs.Kinds.{shape_of, numbers_of, leads_back}
@@ -75,19 +75,19 @@ module _ {levels labels ups lefts : List ℕ} (columns : Columns levels labels u
 
   module _ {k : Shape} {i : ℕ} {before after : List ℕ} (a b : ℕ) where
     -- along the column of an axis,
-    pub passed-some : (x : Axis) (f : List ℕ) → f ≡ column_of x ups lefts → k ≡ someAlong x
+    pub passed-some : (x : Axis) (f : List ℕ) → f ≡ column_of x ups lefts → k ≡ some_along x
         → Passed (length f) i (along_mark false (direction x) (length f) (leads f) (bits_of before a) (bits_of before b)) before after
         → Meant k a b i before after
     unfolding means along_mark
     passed-some x f c e r = rw e (rw (c, (column-all x).0, (column-all x).1) at r)
 
-    pub passed-until : (x : Axis) (f : List ℕ) → f ≡ column_of x ups lefts → k ≡ untilAlong x
+    pub passed-until : (x : Axis) (f : List ℕ) → f ≡ column_of x ups lefts → k ≡ until_along x
         → Passed (length f) i (along_mark true (direction x) (length f) (leads f) (bits_of before a) (bits_of before b)) before after
         → Meant k a b i before after
     unfolding means along_mark
     passed-until x f c e r = rw e (rw (c, (column-all x).0, (column-all x).1) at r)
 
-    pub passed-every : k ≡ everyChild
+    pub passed-every : k ≡ every_child
         → Passed (length ups) i (ahead_mark Every (length ups) (leads ups) (bits_of before a) (bits_of before b)) before after
         → Meant k a b i before after
     unfolding means ahead_mark direction leads_back column_of

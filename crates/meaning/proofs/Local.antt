@@ -19,7 +19,7 @@ use Rattle.meaning.specs.Links.{link}
 use Rattle.terms.specs.declared.kind.Axis.{Axis}
 use Rattle.meaning.specs.Tree.{backward, direction}
 use Rattle.terms.specs.declared.kind.Shape.{Shape}
-use Rattle.terms.specs.declared.kind.Shape.TheVariants.{Nothing as nothing, Here as local, SomeAlong as someAlong, UntilAlong as untilAlong, EveryChild as everyChild}
+use Rattle.terms.specs.declared.kind.Shape.TheVariants.{Nothing as nothing, Here as local, SomeAlong as some_along, UntilAlong as until_along, EveryChild as every_child}
 use Rattle.terms.specs.Kinds.{row_of, shape_of, leads_back, shape_looks_back}
 use Rattle.meaning.specs.Marks.{at, some_of, until_of, means, below, mark, word_of}
 use Rattle.meaning.proofs.Links.{Agree, link-prefix}
@@ -69,9 +69,9 @@ module _ (levels levels' labels labels' : List ℕ) (s : ℕ) (l : s < length le
     unfolding means shape_looks_back
     means-same nothing e = refl
     means-same (local k) e = rw (named t m, ea t m, eb t m)
-    means-same (someAlong x) e = some_same x (leads-back x e) a a' t m (λ u h. ea u (omega arith))
-    means-same (untilAlong x) e = until-same x (leads-back x e) a b a' b' ea eb (suc t) t (omega arith) m
-    means-same everyChild e = clash e refl
+    means-same (some_along x) e = some_same x (leads-back x e) a a' t m (λ u h. ea u (omega arith))
+    means-same (until_along x) e = until-same x (leads-back x e) a b a' b' ea eb (suc t) t (omega arith) m
+    means-same every_child e = clash e refl
 
   module _ (entries : List Entry) (back : LooksBack entries) where
     entry-same : (k : ℕ) (a b a' b' : ℕ → Bool) → Alike s a a' → Alike s b b' → (t : ℕ) → t ≤ s

@@ -17,7 +17,7 @@ use Rattle.meaning.specs.Links.{parent, previous, link}
 use Rattle.terms.specs.declared.kind.Local.{Local}
 use Rattle.terms.specs.declared.kind.Local.TheVariants.{Always as always, HasLabel as has_label, Negation as negation, Disjunction as disjunction, Conjunction as conjunction}
 use Rattle.terms.specs.declared.kind.Shape.{Shape}
-use Rattle.terms.specs.declared.kind.Shape.TheVariants.{Nothing as nothing, Here as local, SomeAlong as someAlong, UntilAlong as untilAlong, EveryChild as everyChild}
+use Rattle.terms.specs.declared.kind.Shape.TheVariants.{Nothing as nothing, Here as local, SomeAlong as some_along, UntilAlong as until_along, EveryChild as every_child}
 use Rattle.terms.specs.Kinds.{shape_of, leads_back}
 use Rattle.meaning.specs.Meaning.{MeansHere, Means, Below, Holds}
 use Rattle.meaning.specs.Marks.{means_here, means, below, mark, word_of, verdict}
@@ -64,9 +64,9 @@ module _ (levels labels : List ℕ) where
     unfolding Means means
     means-told nothing = fails (λ x. x)
     means-told (local k) = here-told k label (get_or labels s 0) (ha s l) (hb s l)
-    means-told (someAlong x) = some-told (axis-along levels x) s (near x)
-    means-told (untilAlong x) = until-told (axis-along levels x) ha hb s l
-    means-told everyChild = every-told (axis-along levels child) s (near child)
+    means-told (some_along x) = some-told (axis-along levels x) s (near x)
+    means-told (until_along x) = until-told (axis-along levels x) ha hb s l
+    means-told every_child = every-told (axis-along levels child) s (near child)
 
   pick-told : (q : Bool) (s : ℕ) (P P' : ℕ → Type 0) (p p' : ℕ → Bool) → IsTest (P s) (p s) → IsTest (P' s) (p' s)
       → IsTest (cond q P P' s) (cond q p p' s)

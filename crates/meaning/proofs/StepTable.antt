@@ -19,7 +19,7 @@ use Rattle.terms.specs.declared.kind.Axis.TheVariants.{Child as child, Parent as
 use Rattle.meaning.specs.Tree.{direction}
 use Rattle.meaning.specs.Links.{parent, previous, link}
 use Rattle.terms.specs.declared.kind.Shape.{Shape}
-use Rattle.terms.specs.declared.kind.Shape.TheVariants.{Nothing as nothing, Here as local, SomeAlong as someAlong, UntilAlong as untilAlong, EveryChild as everyChild}
+use Rattle.terms.specs.declared.kind.Shape.TheVariants.{Nothing as nothing, Here as local, SomeAlong as some_along, UntilAlong as until_along, EveryChild as every_child}
 use Rattle.terms.specs.Kinds.{row_of, shape_of, leads_back, shape_looks_back}
 use Rattle.meaning.specs.Marks.{at, some_of, means_here, means, mark, word_of}
 use Rattle.meaning.specs.OnePass.{word_to, step_bit, step_word}
@@ -102,11 +102,11 @@ module _ (entries : List Entry) (rule : RuleEntries entries) (back : LooksBack e
     unfolding step_bit means shape_looks_back
     step-means nothing e p is = refl
     step-means (local k) e p is = rw (word-bit i a (λ j. M j s) p.0, word-bit i b (λ j. M j s) p.1)
-    step-means (someAlong x) e p is = back-bit x e s a (omega arith)
-    step-means (untilAlong x) e p is =
+    step-means (some_along x) e p is = back-bit x e s a (omega arith)
+    step-means (until_along x) e p is =
         rw (word-bit i a (λ j. M j s) p.0, word-bit i b (λ j. M j s) p.1, back-bit x e s i li, is)
         (sym (until-is (axis-along levels x) (M a) (M b) s ls))
-    step-means everyChild e p is = clash e refl
+    step-means every_child e p is = clash e refl
 
     -- So it is for kinds 1 and 2, whatever a and b are.
     step-plain : (k : ℕ) → k < 3 → step_bit (shape_of k) a b i (get_or labels s 0) w (found_word W (parent levels s)) (found_word W (previous levels s))

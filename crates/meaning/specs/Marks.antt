@@ -12,7 +12,7 @@ use Rattle.meaning.specs.Links.{link}
 use Rattle.terms.specs.declared.kind.Local.{Local}
 use Rattle.terms.specs.declared.kind.Local.TheVariants.{Always as always, HasLabel as has_label, Negation as negation, Disjunction as disjunction, Conjunction as conjunction}
 use Rattle.terms.specs.declared.kind.Shape.{Shape}
-use Rattle.terms.specs.declared.kind.Shape.TheVariants.{Nothing as nothing, Here as local, SomeAlong as someAlong, UntilAlong as untilAlong, EveryChild as everyChild}
+use Rattle.terms.specs.declared.kind.Shape.TheVariants.{Nothing as nothing, Here as local, SomeAlong as some_along, UntilAlong as until_along, EveryChild as every_child}
 use Rattle.terms.specs.Kinds.{shape_of}
 use Rattle.numbers.specs.Bits.{word, bit_at, have_bit}
 use Rattle.numbers.specs.Lists.{listed}
@@ -58,9 +58,9 @@ module _ (levels labels : List ℕ) where
   unfoldable pub means : Shape → (label : ℕ) (a b : ℕ → Bool) → ℕ → Bool
   means nothing label a b s = false
   means (local k) label a b s = means_here k label (get_or labels s 0) (a s) (b s)
-  means (someAlong x) label a b s = some_of (direction x) (length levels) (link levels x) a s
-  means (untilAlong x) label a b s = until_of (direction x) (length levels) (link levels x) a b s
-  means everyChild label a b s = every_of (direction child) (length levels) (link levels child) a s
+  means (some_along x) label a b s = some_of (direction x) (length levels) (link levels x) a s
+  means (until_along x) label a b s = until_of (direction x) (length levels) (link levels x) a b s
+  means every_child label a b s = every_of (direction child) (length levels) (link levels child) a s
 
   module _ (entries : List Entry) where
     abbrev entry : ℕ → Entry

@@ -8,7 +8,7 @@ use Rattle.entry.specs.declared.entry.Entry.{Entry}
 use Rattle.terms.specs.declared.kind.Local.{Local}
 use Rattle.terms.specs.declared.kind.Local.TheVariants.{Always as always, HasLabel as has_label, Negation as negation, Disjunction as disjunction, Conjunction as conjunction}
 use Rattle.terms.specs.declared.kind.Shape.{Shape}
-use Rattle.terms.specs.declared.kind.Shape.TheVariants.{Nothing as nothing, Here as local, SomeAlong as someAlong, UntilAlong as untilAlong, EveryChild as everyChild}
+use Rattle.terms.specs.declared.kind.Shape.TheVariants.{Nothing as nothing, Here as local, SomeAlong as some_along, UntilAlong as until_along, EveryChild as every_child}
 use Rattle.terms.specs.Kinds.{shape_of}
 use Rattle.grammar.specs.Rules.{no_entry}
 use Rattle.terms.specs.declared.kind.Axis.TheVariants.{Child as child}
@@ -33,9 +33,9 @@ module _ (levels labels : List ℕ) where
   unfoldable pub Means : Shape → (label : ℕ) (A B : ℕ → Type 0) → ℕ → Type 0
   Means nothing label A B s = ⊥
   Means (local k) label A B s = MeansHere k label (get_or labels s 0) (A s) (B s)
-  Means (someAlong x) label A B s = (t : ℕ) × Neighbour levels x s t × A t
-  Means (untilAlong x) label A B s = Until (Neighbour levels x) A B s
-  Means everyChild label A B s = ((t : ℕ) × Neighbour levels child s t) × ((t : ℕ) → Neighbour levels child s t → A t)
+  Means (some_along x) label A B s = (t : ℕ) × Neighbour levels x s t × A t
+  Means (until_along x) label A B s = Until (Neighbour levels x) A B s
+  Means every_child label A B s = ((t : ℕ) × Neighbour levels child s t) × ((t : ℕ) → Neighbour levels child s t → A t)
 
   module _ (entries : List Entry) where
     abbrev entry : ℕ → Entry

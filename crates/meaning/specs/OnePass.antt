@@ -11,7 +11,7 @@ use Rattle.grammar.specs.Rules.{no_entry}
 use Rattle.terms.specs.declared.kind.Axis.{Axis}
 use Rattle.terms.specs.declared.kind.Axis.TheVariants.{Child as child, Parent as parent, Next as next, Previous as previous}
 use Rattle.terms.specs.declared.kind.Shape.{Shape}
-use Rattle.terms.specs.declared.kind.Shape.TheVariants.{Nothing as nothing, Here as local, SomeAlong as someAlong, UntilAlong as untilAlong, EveryChild as everyChild}
+use Rattle.terms.specs.declared.kind.Shape.TheVariants.{Nothing as nothing, Here as local, SomeAlong as some_along, UntilAlong as until_along, EveryChild as every_child}
 use Rattle.terms.specs.Kinds.{shape_of}
 use Rattle.meaning.specs.Marks.{means_here}
 use Rattle.terms.specs.Limits.{levels_most}
@@ -51,9 +51,9 @@ word_to next p q = 0
 unfoldable pub step_bit : Shape → (a b i label w parent_word sibling_word : ℕ) → Bool
 step_bit nothing a b i label w p q = false
 step_bit (local k) a b i label w p q = means_here k a label (bit_at w a) (bit_at w b)
-step_bit (someAlong x) a b i label w p q = bit_at (word_to x p q) a
-step_bit (untilAlong x) a b i label w p q = bit_at w b || (bit_at w a && bit_at (word_to x p q) i)
-step_bit everyChild a b i label w p q = false
+step_bit (some_along x) a b i label w p q = bit_at (word_to x p q) a
+step_bit (until_along x) a b i label w p q = bit_at w b || (bit_at w a && bit_at (word_to x p q) i)
+step_bit every_child a b i label w p q = false
 
 module _ (entries : List Entry) where
   abbrev entry : ℕ → Entry
