@@ -1,5 +1,5 @@
 -- The text from the tables is the text of the meaning; and what an accepted evaluation says. Assumes nothing.
-use Prim.Native.Nat.{ℕ, zero, suc, pred, ◌+◌, ◌-◌, ◌≤◌, ◌<◌}
+use Prim.Native.Nat.{ℕ, zero, suc, pred, ◌-◌, ◌≤◌, ◌<◌}
 use native.Mathlib.Omega.{arith}
 use borrow.Author.Tests.{le-ltb}
 use mathlib.Core.Path.{◌≡◌, refl, sym, ap, subst, ◌∙◌}

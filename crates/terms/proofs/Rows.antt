@@ -5,7 +5,7 @@ use native.Mathlib.Nat.{add-zero, add-suc, suc-add, zero-add}
 use native.Mathlib.Omega.{arith}
 use mathlib.Core.Path.{◌≡◌, refl}
 use mathlib.Core.List.{List, [], ◌∷◌}
-use lib.ListN.{length, get_or}
+use lib.ListN.{get_or}
 use Rattle.terms.specs.Kinds.{row, no_kind, kind_rows, row_of, shape_of, local_numbers, numbers_of}
 use Rattle.terms.specs.declared.kind.Axis.TheVariants.{Child, Parent, Next, Previous}
 use Rattle.terms.specs.declared.kind.Local.TheVariants.{Always, HasLabel, Negation, Disjunction, Conjunction}

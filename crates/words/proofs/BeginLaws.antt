@@ -21,7 +21,6 @@ use Rattle.words.specs.declared.begins.Begin.TheVariants as B
 use Rattle.words.specs.declared.begins.Start.TheVariants as S
 use Rattle.words.specs.Words.{head_of, fixed_at, digits_of, numeral_of}
 use Rattle.words.specs.Begins.{true_of, label_of, not_of, letters_at, begin_at, named_of, named_at, axis_at, step_at, start_at}
-use Rattle.words.proofs.Reading.{While}
 use Rattle.words.proofs.WordLaws.{by-test, front}
 
 -- ---- what the code has found

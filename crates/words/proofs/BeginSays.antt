@@ -1,7 +1,7 @@
 -- What an answer says of reading, of `or`, of what a test begins with and of what a step begins with, where the cursor is not past the
 -- end: what was read, over every stack of expectations below; or where reading stops. Assumes nothing.
 use mir.Val.{bool_byte}
-use Prim.Native.Nat.{ℕ, zero, suc, ◌+◌, ◌-◌, ◌≤◌}
+use Prim.Native.Nat.{ℕ, zero, suc, ◌+◌, ◌≤◌}
 use native.Mathlib.Omega.{arith}
 use mathlib.Core.Path.{◌≡◌, refl, ap, ◌∙◌}
 use mathlib.Core.Bool.{Bool, true, false, cond}
@@ -30,7 +30,7 @@ use Rattle.words.specs.declared.begins.Start.{Start}
 use Rattle.words.specs.declared.begins.Start.TheVariants as S
 use Rattle.words.specs.Words.{head_of, fixed_at, digits_of}
 use Rattle.words.specs.Begins.{leaf_tree, true_of, label_of, not_of, letters_at, begin_at, named_of, named_at, axis_at, step_of, step_at, start_at}
-use Rattle.words.proofs.Reading.{WordAt, OrAt, NumberAt, Lettered, LettersAt, BeginsAt, AxisAt, While, StartAt}
+use Rattle.words.proofs.Reading.{WordAt, OrAt, NumberAt, Lettered, LettersAt, BeginsAt, AxisAt, StartAt}
 use Rattle.words.proofs.WordLaws.{by-test, front, word-says, number-law}
 use Rattle.terms.specs.Limits.{label_most}
 

@@ -1,9 +1,7 @@
 -- `count_with_bit`: the words passed are counted. Assumes nothing.
-use Prim.Native.Nat.{◌≤◌, ◌-◌}
 use native.Mathlib.Omega.{arith}
 use mathlib.Core.Path.{◌≡◌, refl, ◌∙◌}
-use borrow.Author.Rules.{rules}
-use lib.ListN.{length, take}
+use lib.ListN.{length}
 use lib.Seq.{take-length}
 use Rattle.numbers.specs.Bits.{in_word, have_bit}
 use Rattle.numbers.proofs.BitLaws.{bit-small, have_bit-first, have_bit-next}

@@ -1,11 +1,8 @@
 -- `gate_pass`: the words passed have their bit, and those ahead are as they were. Assumes nothing.
 use Prim.Native.Nat.{◌≤◌, ◌-◌}
-use native.Mathlib.Omega.{arith}
-use mathlib.Core.Path.{◌≡◌, refl, sym}
-use borrow.Author.Rules.{rules}
-use lib.ListN.{length, get_or, length-set}
+use mathlib.Core.Path.{◌≡◌}
+use lib.ListN.{length}
 use Rattle.numbers.specs.Lists.{listed, over}
-use Rattle.numbers.proofs.Lists.{over_none, filled-ahead, filled_next, filled-all}
 use Rattle.buffer.specs.Gates.{gated_word}
 use Rattle.buffer.proofs.gates.gate_pass.Given as goal
 

@@ -2,7 +2,6 @@
 use native.Mathlib.Omega.{arith}
 use borrow.Author.Tests.{leb-true}
 use Rattle.entry.specs.Entry.{entry_of}
-use borrow.Author.Rules.{rules}
 use Rattle.entry.proofs.entry.entry_of.Goals as goal
 
 pub number_where-requires : goal.number_where-requires

@@ -1,7 +1,6 @@
 -- `misdirects` tests what the row says the numbers are. Assumes nothing.
 use mathlib.Core.Path.{refl}
 use Rattle.entry.specs.Entry.{misdirected}
-use borrow.Author.Rules.{rules}
 use Rattle.entry.proofs.entry.misdirects.Goals as goal
 
 pub returns-in-Nothing : goal.returns-in-Nothing

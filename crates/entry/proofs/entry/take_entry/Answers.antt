@@ -4,7 +4,6 @@ use mathlib.Core.Path.{refl, ap, sym, ◌∙◌}
 use Rattle.terms.specs.Kinds.{row_of}
 use Rattle.terms.proofs.FrameLaws.{whole-stands}
 use Rattle.entry.proofs.TakenLaws.{rule-full, rule-few, rule-broken, rule-room, taken-faulty, taken-whole}
-use borrow.Author.Rules.{rules}
 use Rattle.entry.proofs.entry.take_entry.Goals as goal
 
 pub returns-then-own-ge-ENTRIES_MOST : goal.returns-then-own-ge-ENTRIES_MOST

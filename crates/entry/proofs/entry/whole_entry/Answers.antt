@@ -1,6 +1,5 @@
 -- `whole_entry` tests the entry by what its row says of its numbers. Assumes nothing.
 use mathlib.Core.Path.{sym, ◌∙◌}
-use borrow.Author.Rules.{rules}
 use Rattle.entry.proofs.entry.whole_entry.Goals as goal
 
 pub returns-then-misdirects : goal.returns-then-misdirects

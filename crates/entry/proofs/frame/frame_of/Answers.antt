@@ -2,7 +2,6 @@
 use native.Mathlib.Omega.{arith}
 use mathlib.Core.Path.{sym, ◌∙◌}
 use Rattle.terms.proofs.FrameLaws.{frame-unknown, frame-wrong, frame_past, frame-whole}
-use borrow.Author.Rules.{rules}
 use Rattle.entry.proofs.frame.frame_of.Goals as goal
 
 pub returns-then-expected-eq0 : goal.returns-then-expected-eq0

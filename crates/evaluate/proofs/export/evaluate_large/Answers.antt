@@ -5,7 +5,6 @@ use lib.ListN.{length-replicate}
 use Rattle.terms.specs.Limits.{elements_most}
 use Rattle.layout.proofs.LayoutLaws.{room-for-any}
 use Rattle.marking.proofs.AnswerLaws.{marked-evaluated}
-use borrow.Author.Rules.{rules}
 use Rattle.evaluate.proofs.export.evaluate_large.Goals as goal
 
 pub returns : goal.returns

@@ -5,7 +5,6 @@ use lib.ListN.{length-replicate}
 use Rattle.layout.proofs.LayoutLaws.{room-by-size}
 use Rattle.marking.proofs.AnswerLaws.{marked-evaluated}
 use Rattle.evaluate.specs.Columns.{middle_columns}
-use borrow.Author.Rules.{rules}
 use Rattle.evaluate.proofs.export.evaluate_middle.Goals as goal
 
 pub returns : goal.returns

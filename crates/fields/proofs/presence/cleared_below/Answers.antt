@@ -3,7 +3,6 @@ use native.Mathlib.Omega.{arith}
 use borrow.Author.Tests.{lt-ltb, le-ltb}
 use Rattle.fields.specs.Fields.{cleared_below}
 use Rattle.fields.proofs.FieldLaws.{with-bit-own}
-use borrow.Author.Rules.{rules}
 use Rattle.fields.proofs.presence.cleared_below.Goals as goal
 
 pub returns-then-d-lt63 : goal.returns-then-d-lt63

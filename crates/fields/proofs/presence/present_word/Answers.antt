@@ -1,5 +1,4 @@
 -- `present_word` gives the word, if its presence bit is set. Assumes nothing.
-use borrow.Author.Rules.{rules}
 use Rattle.fields.proofs.presence.present_word.Goals as goal
 
 pub returns-then-bit_at : goal.returns-then-bit_at

@@ -2,7 +2,6 @@
 use native.Mathlib.Omega.{arith}
 use Rattle.numbers.specs.Bits.{in_word}
 use Rattle.numbers.proofs.WithBit.{out-le, with-bit-machine, with-bit-room}
-use borrow.Author.Rules.{rules}
 use Rattle.fields.proofs.presence.with_bit.Goals as goal
 
 pub overflow_sub-result : goal.overflow_sub-result

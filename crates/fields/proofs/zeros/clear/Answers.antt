@@ -1,10 +1,9 @@
 -- `clear` writes one zero a turn. Assumes nothing.
-use Prim.Native.Nat.{◌≤◌, ◌-◌}
 use native.Mathlib.Omega.{arith}
 use mathlib.Core.Path.{◌≡◌, refl, ◌∙◌}
-use mathlib.Core.List.{◌++◌, append-nil}
+use mathlib.Core.List.{append-nil}
 use borrow.Author.Fill.{fill_more}
-use lib.ListN.{length, replicate, drop, length-set}
+use lib.ListN.{length, length-set}
 use lib.Seq.{drop-length}
 use Rattle.fields.proofs.zeros.clear.Goals as goal
 

@@ -1,11 +1,8 @@
 -- `clear` writes one zero a turn. Assumes nothing.
 use Prim.Native.Nat.{◌≤◌, ◌-◌}
-use native.Mathlib.Omega.{arith}
-use mathlib.Core.Path.{◌≡◌, refl, ◌∙◌}
-use mathlib.Core.List.{◌++◌, append-nil}
-use borrow.Author.Fill.{fill_more}
-use lib.ListN.{length, replicate, drop, length-set}
-use lib.Seq.{drop-length}
+use mathlib.Core.Path.{◌≡◌}
+use mathlib.Core.List.{◌++◌}
+use lib.ListN.{length, replicate, drop}
 use Rattle.fields.proofs.zeros.clear.Given as goal
 
 abbrev pub invariant-loop-i : goal.invariant-loop-i

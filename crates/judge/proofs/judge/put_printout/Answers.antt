@@ -1,6 +1,5 @@
 -- `put_printout` tells the printout of the halves, or refusal 1. Assumes nothing.
 use mathlib.Core.Bool.{true, false}
-use borrow.Author.Rules.{rules}
 use Rattle.judge.proofs.SplitLaws.{split-fine, printout-rendered}
 use Rattle.judge.proofs.judge.put_printout.Goals as goal
 

@@ -1,5 +1,4 @@
 -- `put_split` cuts the input where the rule ends. Assumes nothing.
-use borrow.Author.Rules.{rules}
 use Rattle.judge.proofs.SplitLaws.{halves-rendered}
 use Rattle.judge.proofs.judge.put_split.Goals as goal
 

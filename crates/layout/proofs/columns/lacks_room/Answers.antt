@@ -1,5 +1,4 @@
 -- `lacks_room`: the lowest of all is compared. Assumes nothing.
-use borrow.Author.Rules.{rules}
 use Rattle.layout.proofs.columns.lacks_room.Goals as goal
 
 pub returns : goal.returns

@@ -1,5 +1,4 @@
 -- `least_of_four`: two by two. Assumes nothing.
-use borrow.Author.Rules.{rules}
 use Rattle.layout.proofs.columns.least_of_four.Goals as goal
 
 pub returns : goal.returns

@@ -1,7 +1,6 @@
 -- `lay_out`: what the reader leaves, and the links where every column has room. Assumes nothing.
 use Rattle.layout.specs.Layout.{room_in}
 use Rattle.layout.proofs.LayoutLaws.{laid-refused, laid-short, laid-ready, laid-linked}
-use borrow.Author.Rules.{rules}
 use Rattle.layout.proofs.layout.lay_out.Goals as goal
 
 pub link_first-requires : goal.link_first-requires

@@ -2,7 +2,6 @@
 use mathlib.Core.Path.{sym, ◌∙◌}
 use lib.Seq.{length-take-le}
 use Rattle.layout.proofs.LayoutLaws.{linked-first}
-use borrow.Author.Rules.{rules}
 use Rattle.layout.proofs.layout.link_first.Goals as goal
 
 pub slice_bounds-link-end : goal.slice_bounds-link-end

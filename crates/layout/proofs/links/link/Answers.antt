@@ -1,9 +1,7 @@
 -- `link`: the columns lead from the elements passed. Assumes nothing.
-use Prim.Native.Nat.{◌≤◌, ◌-◌}
+use Prim.Native.Nat.{◌≤◌}
 use native.Mathlib.Omega.{arith}
-use lib.ListN.{length}
-use Rattle.layout.proofs.LinkLaws.{LinkMore, more-start, more-turn-at, link-end}
-use borrow.Author.Rules.{rules}
+use Rattle.layout.proofs.LinkLaws.{more-start, more-turn-at, link-end}
 use Rattle.layout.proofs.links.link.Goals as goal
 use Rattle.layout.proofs.links.link.Goals.{After-wide-d}
 

@@ -1,9 +1,7 @@
 -- `link`: the columns lead from the elements passed. Assumes nothing.
-use Prim.Native.Nat.{◌≤◌, ◌-◌}
-use native.Mathlib.Omega.{arith}
+use Prim.Native.Nat.{◌-◌}
 use lib.ListN.{length}
-use Rattle.layout.proofs.LinkLaws.{LinkMore, more-start, more-turn-at, link-end}
-use borrow.Author.Rules.{rules}
+use Rattle.layout.proofs.LinkLaws.{LinkMore}
 use Rattle.layout.proofs.links.link.Given as goal
 
 abbrev pub invariant-loop-s : goal.invariant-loop-s

@@ -1,11 +1,7 @@
 -- `gather_pass`: the elements passed have given to those that they lead to. Assumes nothing.
-use Prim.Native.Nat.{◌≤◌, ◌-◌}
 use native.Mathlib.Nat.{mod-eq_of_lt}
-use lib.ListN.{length}
-use Rattle.marking.specs.Pass.{Passed}
-use Rattle.marking.proofs.AheadLaws.{given_by, gather-start, gather-turn, gather-end}
+use Rattle.marking.proofs.AheadLaws.{gather-start, gather-turn, gather-end}
 use Rattle.marking.proofs.PassLaws.{own_in, earlier-in}
-use borrow.Author.Rules.{rules}
 use native.Mathlib.Omega.{arith}
 use Rattle.marking.proofs.ahead.gather_pass.Goals as goal
 

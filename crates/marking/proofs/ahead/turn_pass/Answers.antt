@@ -2,9 +2,8 @@
 use Prim.Native.Nat.{◌<◌, ◌-◌}
 use mathlib.Core.Path.{◌≡◌}
 use lib.ListN.{length, length-set}
-use Rattle.marking.proofs.AheadLaws.{AheadMid, ahead-start, ahead_before, ahead-turn, ahead-end}
+use Rattle.marking.proofs.AheadLaws.{ahead-start, ahead_before, ahead-turn, ahead-end}
 use Rattle.marking.proofs.PassLaws.{own_in, earlier-in}
-use borrow.Author.Rules.{rules}
 use native.Mathlib.Omega.{arith}
 use Rattle.marking.proofs.ahead.turn_pass.Goals as goal
 

@@ -1,11 +1,5 @@
 -- `turn_pass`: the elements passed have their marks, and have given to those that they lead to. Assumes nothing.
-use Prim.Native.Nat.{◌<◌, ◌-◌}
-use mathlib.Core.Path.{◌≡◌}
-use lib.ListN.{length, length-set}
-use Rattle.marking.proofs.AheadLaws.{AheadMid, ahead-start, ahead_before, ahead-turn, ahead-end}
-use Rattle.marking.proofs.PassLaws.{own_in, earlier-in}
-use borrow.Author.Rules.{rules}
-use native.Mathlib.Omega.{arith}
+use Rattle.marking.proofs.AheadLaws.{AheadMid}
 use Rattle.marking.proofs.ahead.turn_pass.Given as goal
 
 abbrev pub invariant-loop-t : goal.invariant-loop-t

@@ -1,13 +1,6 @@
 -- `back_pass`: the elements passed have their marks, and a column leads to one of them. Assumes nothing.
-use Prim.Native.Nat.{◌≤◌, ◌-◌}
-use lib.ListN.{length}
-use Rattle.meaning.specs.Tree.{backward}
-use Rattle.layout.specs.Links.{leads}
-use Rattle.marking.specs.Pass.{Passed, bits_of}
-use Rattle.marking.specs.Steps.{along_mark}
-use Rattle.marking.proofs.PassLaws.{before-only, ascent-start, ascent-turn, ascent-end, own_in, earlier-in}
+use Rattle.marking.proofs.PassLaws.{ascent-start, ascent-turn, ascent-end, own_in, earlier-in}
 use Rattle.marking.proofs.StepLaws.{back-turn}
-use borrow.Author.Rules.{rules}
 use native.Mathlib.Omega.{arith}
 use Rattle.marking.proofs.back.back_pass.Goals as goal
 

@@ -5,10 +5,7 @@ use Rattle.meaning.specs.Tree.{backward}
 use Rattle.layout.specs.Links.{leads}
 use Rattle.marking.specs.Pass.{Passed, bits_of}
 use Rattle.marking.specs.Steps.{along_mark}
-use Rattle.marking.proofs.PassLaws.{before-only, ascent-start, ascent-turn, ascent-end, own_in, earlier-in}
-use Rattle.marking.proofs.StepLaws.{back-turn}
-use borrow.Author.Rules.{rules}
-use native.Mathlib.Omega.{arith}
+use Rattle.marking.proofs.PassLaws.{before-only}
 use Rattle.marking.proofs.back.back_pass.Given as goal
 
 abbrev pub invariant-loop-s : goal.invariant-loop-s

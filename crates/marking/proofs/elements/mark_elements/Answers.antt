@@ -5,7 +5,6 @@ use lib.ListN.{length, take, length-replicate}
 use lib.Seq.{length-take-le}
 use Rattle.marking.proofs.PassLaws.{clear_room}
 use Rattle.marking.proofs.KindLaws.{table-few, table-last, marked-first}
-use borrow.Author.Rules.{rules}
 use Rattle.marking.proofs.elements.mark_elements.Goals as goal
 
 pub slice_bounds-words-end-2 : goal.slice_bounds-words-end-2

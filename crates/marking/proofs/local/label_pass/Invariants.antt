@@ -1,12 +1,9 @@
 -- `label_pass`: the elements passed have their marks. Assumes nothing.
 use Prim.Native.Nat.{◌≤◌, ◌-◌}
-use mathlib.Core.Path.{refl}
 use lib.Dec.{eqb}
 use lib.ListN.{length, get_or}
 use Rattle.marking.specs.Pass.{Passed}
-use Rattle.marking.proofs.PassLaws.{before-only, ascent-start, ascent-turn, ascent-end, own_in}
-use borrow.Author.Rules.{rules}
-use native.Mathlib.Omega.{arith}
+use Rattle.marking.proofs.PassLaws.{before-only}
 use Rattle.marking.proofs.local.label_pass.Given as goal
 
 abbrev pub invariant-loop-s : goal.invariant-loop-s

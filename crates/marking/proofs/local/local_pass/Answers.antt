@@ -4,7 +4,6 @@ use Rattle.terms.specs.Kinds.{local_numbers}
 use Rattle.meaning.specs.Marks.{means_here}
 use Rattle.steps.proofs.Gates.{gate-always, gate-not, gate-or, gate-and}
 use Rattle.marking.proofs.PassLaws.{passed-same, passed-gate, earlier-in}
-use borrow.Author.Rules.{rules}
 use Rattle.marking.proofs.local.local_pass.Goals as goal
 
 pub returns-in-Always : goal.returns-in-Always

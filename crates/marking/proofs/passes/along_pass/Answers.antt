@@ -2,7 +2,6 @@
 use mathlib.Core.Path.{sym, ◌∙◌}
 use Rattle.meaning.specs.Tree.{direction}
 use Rattle.marking.specs.Steps.{along_mark, ahead_mark, Nearest}
-use borrow.Author.Rules.{rules}
 use Rattle.marking.proofs.passes.along_pass.Goals as goal
 
 pub turn_pass-requires : goal.turn_pass-requires

@@ -1,12 +1,10 @@
 -- `mark_entries`: the words have the marks of the entries passed. Assumes nothing.
 use Prim.Native.Nat.{ℕ, ◌≤◌, ◌-◌}
-use native.Mathlib.Omega.{arith}
 use mathlib.Core.List.{List}
 use lib.ListN.{length}
 use Rattle.grammar.specs.Table.{entries_in}
 use Rattle.marking.specs.Pass.{Stored, Columns}
-use Rattle.marking.proofs.KindLaws.{word_up_to, words-start, words-room, table-few, table_fits, table-turn, table-end}
-use borrow.Author.Rules.{rules}
+use Rattle.marking.proofs.KindLaws.{word_up_to}
 use Rattle.marking.proofs.passes.mark_entries.Given as goal
 
 abbrev pub invariant-loop-i : goal.invariant-loop-i

@@ -4,7 +4,6 @@ use Rattle.terms.specs.declared.kind.Axis.TheVariants.{Child}
 use Rattle.terms.specs.Kinds.{numbers_of}
 use Rattle.steps.specs.Steps.{column_of}
 use Rattle.marking.proofs.KindLaws.{column-room, passed-some, passed-until, passed-every, passed-local, passed-nothing, ups-nearest}
-use borrow.Author.Rules.{rules}
 use Rattle.marking.proofs.passes.mark_entry.Goals as goal
 
 pub local_pass-requires : goal.local_pass-requires

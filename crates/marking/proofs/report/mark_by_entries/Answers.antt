@@ -5,7 +5,6 @@ use Rattle.terms.specs.Answer.{place_of}
 use Rattle.layout.specs.Layout.{room_in}
 use Rattle.marking.proofs.AnswerLaws.{room-short, room-enough, room-for-within, by-refused, by-short, by-room, held, columns-held, marked-few}
 use Rattle.reports.proofs.ElementLaws.{report-small}
-use borrow.Author.Rules.{rules}
 use Rattle.marking.proofs.report.mark_by_entries.Goals as goal
 
 pub returns-then-lacks_room : goal.returns-then-lacks_room

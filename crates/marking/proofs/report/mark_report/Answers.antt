@@ -5,7 +5,6 @@ use lib.ListN.{length-replicate}
 use Rattle.terms.specs.Answer.{place_of}
 use Rattle.terms.specs.Limits.{entries_most}
 use Rattle.marking.proofs.AnswerLaws.{rule-place, entries-read, marked_refused, marked-accepted}
-use borrow.Author.Rules.{rules}
 use Rattle.marking.proofs.report.mark_report.Goals as goal
 
 pub mark_by_entries-answer-requires : goal.mark_by_entries-answer-requires

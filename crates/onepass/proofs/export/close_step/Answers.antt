@@ -1,6 +1,5 @@
 -- `close_step`: 10 first, and else what the state's bytes say. Assumes nothing.
 use Rattle.onepass.proofs.CallLaws.{step-ahead, step-closed}
-use borrow.Author.Rules.{rules}
 use Rattle.onepass.proofs.export.close_step.Goals as goal
 
 pub returns-then-ahead : goal.returns-then-ahead

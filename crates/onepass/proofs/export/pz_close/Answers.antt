@@ -1,7 +1,6 @@
 use native.Mathlib.Omega.{arith}
 use mathlib.Core.Path.{sym, ◌∙◌}
 use Rattle.onepass.proofs.CallLaws.{closed-call, refused-call, refused-place}
-use borrow.Author.Rules.{rules}
 use Rattle.onepass.proofs.export.pz_close.Goals as goal
 
 pub overflow_cast-result : goal.overflow_cast-result

@@ -1,7 +1,6 @@
 use native.Mathlib.Omega.{arith}
 use mathlib.Core.Path.{sym, ◌∙◌}
 use Rattle.onepass.proofs.CallLaws.{opened-call, refused-call, accepted-some, refused-place}
-use borrow.Author.Rules.{rules}
 use Rattle.onepass.proofs.export.pz_open.Goals as goal
 
 pub open_step-requires : goal.open_step-requires

@@ -1,4 +1,3 @@
-use borrow.Author.Rules.{rules}
 use Rattle.onepass.proofs.export.pz_start.Goals as goal
 
 pub returns : goal.returns

@@ -1,15 +1,11 @@
-use borrow.Author.Rules.{rules}
-use Prim.Native.Nat.{◌+◌, ◌-◌, ◌*◌}
+use Prim.Native.Nat.{◌+◌}
 use native.Mathlib.Omega.{arith}
 use mathlib.Core.Path.{sym, ◌∙◌}
 use mathlib.Core.Bool.{true, false}
 use mathlib.Core.List.{[], ◌∷◌}
-use lib.ListN.{length}
-use Rattle.parse.specs.Promises.{Went}
 use Rattle.words.proofs.WordLaws.{front}
 use Rattle.words.proofs.BeginSays.{or-says, begins-says, start-says}
 use Rattle.parse.proofs.TreeLaws.{test-small, path-small, test-ends, either-ends, shut-small, leaf-law, except-law, begins-law, either_left, either-word, either-law, went-none, path-stops, path-bad, path-ended, went-more, plain-law, passing-law, while-law}
-use Prim.Native.Nat.{ℕ, ◌<◌}
 use Rattle.parse.proofs.tree.+either_path_step_test.Goals as goal
 
 pub either-overflow_add-at : goal.either-overflow_add-at

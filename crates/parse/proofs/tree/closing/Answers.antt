@@ -1,6 +1,5 @@
 use native.Mathlib.Omega.{arith}
 use Rattle.parse.proofs.PartLaws.{small_of, closing-bad, closing-done}
-use borrow.Author.Rules.{rules}
 use Rattle.parse.proofs.tree.closing.Goals as goal
 
 pub overflow_add-result : goal.overflow_add-result

@@ -1,6 +1,5 @@
 use native.Mathlib.Omega.{arith}
 use Rattle.parse.proofs.PartLaws.{small_of, except-bad, except-done}
-use borrow.Author.Rules.{rules}
 use Rattle.parse.proofs.tree.except.Goals as goal
 
 pub overflow_add-k : goal.overflow_add-k

@@ -1,5 +1,4 @@
 use Rattle.parse.proofs.PartLaws.{leaf-true, leaf-label}
-use borrow.Author.Rules.{rules}
 use Rattle.parse.proofs.tree.leaf.Goals as goal
 
 pub returns-then-label-eq0 : goal.returns-then-label-eq0

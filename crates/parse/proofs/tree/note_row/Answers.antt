@@ -1,6 +1,5 @@
 use native.Mathlib.Omega.{arith}
 use Rattle.parse.proofs.PartLaws.{row-filled, row-none}
-use borrow.Author.Rules.{rules}
 use Rattle.parse.proofs.tree.note_row.Goals as goal
 
 pub returns-then-n-le-ROWS : goal.returns-then-n-le-ROWS

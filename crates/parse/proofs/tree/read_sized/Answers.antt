@@ -1,5 +1,4 @@
 use Rattle.parse.proofs.ReadLaws.{read-bad, read-over, read_whole}
-use borrow.Author.Rules.{rules}
 use Rattle.parse.proofs.tree.read_sized.Goals as goal
 
 pub returns-in-Bad : goal.returns-in-Bad

@@ -1,5 +1,4 @@
 use Rattle.parse.proofs.ReadLaws.{sized-so, tree-size, tree-text, tree-stopped}
-use borrow.Author.Rules.{rules}
 use Rattle.parse.proofs.tree.read_tree.Goals as goal
 
 pub returns-then-s : goal.returns-then-s

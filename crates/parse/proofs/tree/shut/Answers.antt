@@ -1,7 +1,6 @@
 use native.Mathlib.Omega.{arith}
 use Rattle.words.proofs.WordLaws.{word-says}
 use Rattle.parse.proofs.PartLaws.{shut-bad, shut-missing, shut-there}
-use borrow.Author.Rules.{rules}
 use Rattle.parse.proofs.tree.shut.Goals as goal
 
 pub overflow_cast-result : goal.overflow_cast-result

@@ -1,7 +1,6 @@
 use native.Mathlib.Omega.{arith}
 use Rattle.spell.proofs.FormLaws.{entries-few, bytes-few}
 use Rattle.parse.proofs.PartLaws.{small_of, step-bad, step-done}
-use borrow.Author.Rules.{rules}
 use Rattle.parse.proofs.tree.step_of.Goals as goal
 
 pub overflow_add-k : goal.overflow_add-k

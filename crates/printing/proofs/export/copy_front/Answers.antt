@@ -1,11 +1,8 @@
 -- `copy_front` copies byte by byte: at every turn the first i bytes stand in front. Assumes nothing.
-use Prim.Native.Nat.{◌-◌, ◌≤◌}
 use native.Mathlib.Omega.{arith}
 use mathlib.Core.Path.{◌≡◌, sym}
 use lib.ListN.{take}
-use Rattle.numbers.specs.Lists.{over}
 use Rattle.numbers.proofs.Lists.{over_none, over-length, copied_next}
-use borrow.Author.Rules.{rules}
 use Rattle.printing.proofs.export.copy_front.Goals as goal
 
 pub loop-i-init : goal.loop-i-init

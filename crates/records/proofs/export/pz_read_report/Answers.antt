@@ -1,7 +1,6 @@
 -- `pz_read_report` gives the report reader's answer as numbers: each fits, by the laws of `rules` and `reports` on places and counts. Assumes nothing.
 use native.Mathlib.Omega.{arith}
 use mathlib.Core.Path.{ap, sym, ◌∙◌}
-use borrow.Author.Rules.{rules}
 use Rattle.terms.specs.Answer.{place_of, count_of}
 use Rattle.records.specs.Reply.{report_reply}
 use Rattle.reports.proofs.ElementLaws.{report-small}

@@ -1,7 +1,6 @@
 -- `pz_read_rule` gives the rule reader's answer as numbers: each fits, by the laws of `rules` and `reports` on places and counts. Assumes nothing.
 use native.Mathlib.Omega.{arith}
 use mathlib.Core.Path.{ap, sym, ◌∙◌}
-use borrow.Author.Rules.{rules}
 use Rattle.terms.specs.Answer.{place_of, count_of}
 use Rattle.records.specs.Reply.{rule_reply}
 use Rattle.rules.proofs.EntryLaws.{rule-small}

@@ -1,6 +1,5 @@
 use mathlib.Core.Path.{sym}
 use lib.Seq.{set_out}
-use borrow.Author.Rules.{rules}
 use Rattle.reports.proofs.elements.put.Goals as goal
 
 pub returns-else-i-column : goal.returns-else-i-column

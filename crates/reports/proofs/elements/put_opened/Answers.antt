@@ -1,4 +1,3 @@
-use borrow.Author.Rules.{rules}
 use Rattle.reports.proofs.elements.put_opened.Goals as goal
 
 pub returns-then-opens : goal.returns-then-opens

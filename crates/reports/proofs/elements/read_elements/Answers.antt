@@ -1,11 +1,10 @@
 -- `read_elements`: one walk, whose columns hold the elements of the tags read. Assumes nothing.
 use native.Mathlib.Omega.{arith}
-use borrow.Author.Rules.{rules}
-use Prim.Native.Nat.{ℕ, ◌+◌, ◌≤◌, ◌<◌, ◌-◌}
+use Prim.Native.Nat.{◌+◌, ◌≤◌, ◌<◌}
 use lib.ListN.{length}
 use mathlib.Core.Path.{ap, ◌∙◌}
 use Rattle.numbers.proofs.Lists.{over-length}
-use Rattle.reports.proofs.ElementLaws.{WalkMid, walk_start, opening-within, closing-within, walk-opens, walk-closes, walk-ended, walk_refused, read-empty, read-long}
+use Rattle.reports.proofs.ElementLaws.{walk_start, opening-within, closing-within, walk-opens, walk-closes, walk-ended, walk_refused, read-empty, read-long}
 use Rattle.reports.proofs.elements.read_elements.Goals as goal
 use Rattle.reports.proofs.elements.read_elements.Goals.{Then-taken, Else-taken}
 

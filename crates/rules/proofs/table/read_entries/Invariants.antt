@@ -1,10 +1,7 @@
 -- `read_entries`: one walk, whose table holds the entries read. Assumes nothing.
-use native.Mathlib.Omega.{arith}
 use Prim.Native.Nat.{◌-◌}
-use borrow.Author.Rules.{rules}
 use lib.ListN.{length}
-use Rattle.rules.proofs.RuleLaws.{Onward, rule-onward, rule-empty, rule-long}
-use Rattle.rules.proofs.EntryLaws.{EntriesMid, entries-start, entries-kept, entries-turn, entries-done, halts-ended, halts-faulty, entries_none, entries-many}
+use Rattle.rules.proofs.EntryLaws.{EntriesMid}
 use Rattle.rules.proofs.table.read_entries.Given as goal
 
 abbrev pub invariant-loop-at : goal.invariant-loop-at

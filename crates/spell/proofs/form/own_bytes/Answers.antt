@@ -1,7 +1,6 @@
 -- `own_bytes`: one law for each return. Assumes nothing.
 use native.Mathlib.Omega.{arith}
 use Rattle.spell.proofs.FormLaws.{bytes-five, bytes-six, bytes-twelve, bytes-thirty, bytes-fourteen}
-use borrow.Author.Rules.{rules}
 use Rattle.spell.proofs.form.own_bytes.Goals as goal
 
 pub returns-in-14 : goal.returns-in-14

@@ -1,7 +1,6 @@
 -- `fits` makes the one test before a part is put. Assumes nothing.
 use Rattle.spell.specs.Promises.{written}
 use Rattle.spell.proofs.PartLaws.{fits-is}
-use borrow.Author.Rules.{rules}
 use Rattle.spell.proofs.own.fits.Goals as goal
 
 pub returns : goal.returns

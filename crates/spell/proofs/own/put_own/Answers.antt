@@ -4,7 +4,6 @@ use mathlib.Core.Path.{ap}
 use Rattle.grammar.specs.Rules.{rule_bytes}
 use Rattle.spell.proofs.Adding.{room_as, spelt-as}
 use Rattle.spell.proofs.FormLaws.{own-one, own-star, own-down, own-beside}
-use borrow.Author.Rules.{rules}
 use Rattle.spell.proofs.own.put_own.Goals as goal
 
 pub put_down-requires : goal.put_down-requires

@@ -3,7 +3,6 @@ use native.Mathlib.Omega.{arith}
 use mathlib.Core.Path.{refl, sym, ◌∙◌}
 use Rattle.spell.specs.Promises.{written}
 use Rattle.spell.proofs.PartLaws.{fits-few, fits-room, fits-adds, misfit-adds}
-use borrow.Author.Rules.{rules}
 use Rattle.spell.proofs.own.put_part.Goals as goal
 
 pub put_own-end-requires : goal.put_own-end-requires

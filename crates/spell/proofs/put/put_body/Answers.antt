@@ -1,7 +1,6 @@
 -- `put_body` puts no number, one, or two. Assumes nothing.
 use native.Mathlib.Omega.{arith}
 use Rattle.spell.proofs.Records.{body-first, body-both, number-next, puts_none, puts_one, puts-two}
-use borrow.Author.Rules.{rules}
 use Rattle.spell.proofs.put.put_body.Goals as goal
 
 pub returns-then-arguments-eq0 : goal.returns-then-arguments-eq0

@@ -2,7 +2,6 @@
 use native.Mathlib.Omega.{arith}
 use lib.ListN.{length-set}
 use Rattle.spell.proofs.Records.{number-puts}
-use borrow.Author.Rules.{rules}
 use Rattle.spell.proofs.put.put_number.Goals as goal
 
 pub bounds-rule-at-2 : goal.bounds-rule-at-2

@@ -1,7 +1,6 @@
 -- `put_record` puts the length of the kind, the kind and the body. Assumes nothing.
 use native.Mathlib.Omega.{arith}
 use Rattle.spell.proofs.Records.{number-next, record-room, record-spelt, length-small}
-use borrow.Author.Rules.{rules}
 use Rattle.spell.proofs.put.put_record.Goals as goal
 
 pub overflow_cast-row : goal.overflow_cast-row

@@ -1,6 +1,5 @@
 -- `put_beside` puts two records. Assumes nothing.
 use Rattle.spell.proofs.StepLaws.{beside_first, beside-second, beside-puts}
-use borrow.Author.Rules.{rules}
 use Rattle.spell.proofs.step.put_beside.Goals as goal
 
 pub put_record-passes-requires : goal.put_record-passes-requires

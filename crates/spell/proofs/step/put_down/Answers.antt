@@ -1,6 +1,5 @@
 -- `put_down` puts four records. Assumes nothing.
 use Rattle.spell.proofs.StepLaws.{down-first, down-second, down-third, down-fourth, down-puts}
-use borrow.Author.Rules.{rules}
 use Rattle.spell.proofs.step.put_down.Goals as goal
 
 pub put_record-both-requires : goal.put_record-both-requires

@@ -1,6 +1,5 @@
 -- `put_star` puts two records. Assumes nothing.
 use Rattle.spell.proofs.StepLaws.{star-first, star-second, star-puts}
-use borrow.Author.Rules.{rules}
 use Rattle.spell.proofs.step.put_star.Goals as goal
 
 pub put_record-ever-requires : goal.put_record-ever-requires

@@ -2,7 +2,6 @@
 use mathlib.Core.Path.{sym, ◌∙◌}
 use native.Mathlib.Omega.{arith}
 use lib.ListN.{length-set}
-use borrow.Author.Rules.{rules}
 use Rattle.numbers.proofs.ByteLaws.{put-none, put_step}
 use Rattle.state.proofs.bytes.put_number.Goals as goal
 

@@ -5,7 +5,6 @@ use mathlib.Core.Path.{◌≡◌, sym, ◌∙◌}
 use mathlib.Core.List.{List}
 use Rattle.numbers.specs.Bytes.{number_put}
 use Rattle.numbers.proofs.ByteLaws.{put-split}
-use borrow.Author.Rules.{rules}
 use Rattle.state.proofs.bytes.put_word.Goals as goal
 
 put-quarters : (at v : ℕ) (s : List ℕ)

@@ -5,7 +5,6 @@ use mathlib.Core.Path.{◌≡◌, sym, ◌∙◌}
 use mathlib.Core.List.{List}
 use Rattle.numbers.specs.Bytes.{word_at}
 use Rattle.numbers.proofs.ByteLaws.{word_split}
-use borrow.Author.Rules.{rules}
 use Rattle.state.proofs.bytes.word_at.Goals as goal
 
 word-quarters : (s : List ℕ) (at : ℕ)

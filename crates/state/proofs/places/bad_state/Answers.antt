@@ -2,7 +2,6 @@
 use native.Mathlib.Omega.{arith}
 use Rattle.fields.proofs.FieldLaws.{size-passed}
 use Rattle.state.specs.State.{bad}
-use borrow.Author.Rules.{rules}
 use Rattle.state.proofs.places.bad_state.Goals as goal
 
 pub returns-then-bad_size : goal.returns-then-bad_size

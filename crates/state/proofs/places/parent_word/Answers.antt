@@ -1,6 +1,5 @@
 -- `parent_word` reads open word d - 1, if there is one. Assumes nothing.
 use borrow.Author.Tests.{eq-eqb, ne_eqb}
-use borrow.Author.Rules.{rules}
 use Rattle.numbers.proofs.BitLaws.{pred-sub}
 use Rattle.state.proofs.places.parent_word.Goals as goal
 

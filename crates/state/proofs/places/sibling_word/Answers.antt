@@ -1,5 +1,4 @@
 -- `sibling_word` reads last word d, which counts if its presence bit is set. Assumes nothing.
-use borrow.Author.Rules.{rules}
 use Rattle.state.proofs.places.sibling_word.Goals as goal
 
 pub returns : goal.returns

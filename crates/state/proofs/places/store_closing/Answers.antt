@@ -1,7 +1,6 @@
 use Rattle.state.specs.Layout.{place_from, stored, width_in}
 use Rattle.state.specs.Stores.{closed_bytes}
 use Rattle.fields.proofs.FieldLaws.{with-bit-own}
-use borrow.Author.Rules.{rules}
 use Rattle.state.proofs.places.store_closing.Goals as goal
 
 pub returns : goal.returns

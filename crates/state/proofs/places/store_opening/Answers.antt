@@ -1,6 +1,5 @@
 use Rattle.state.specs.Layout.{place_from, stored, width_in}
 use Rattle.state.specs.Stores.{opened_bytes}
-use borrow.Author.Rules.{rules}
 use Rattle.state.proofs.places.store_opening.Goals as goal
 
 pub returns : goal.returns

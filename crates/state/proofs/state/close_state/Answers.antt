@@ -4,7 +4,6 @@ use Rattle.tag.specs.Tags.{closes, tag_fault}
 use Rattle.state.specs.Promises.{state_number}
 use Rattle.state.specs.State.{state_of}
 use Rattle.state.proofs.NumberLaws.{closes-fine, tested-long, number-bad, number-fault, close-refused, close-taken}
-use borrow.Author.Rules.{rules}
 use Rattle.state.proofs.state.close_state.Goals as goal
 use Rattle.state.proofs.state.close_state.Goals.{After-close_fault-number}
 

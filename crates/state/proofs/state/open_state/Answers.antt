@@ -4,7 +4,6 @@ use Rattle.tag.specs.Tags.{opens}
 use Rattle.state.specs.Promises.{state_number}
 use Rattle.state.specs.State.{state_of}
 use Rattle.state.proofs.NumberLaws.{opens-fine, tested-long, number-bad, number-fault, open-refused, open-taken}
-use borrow.Author.Rules.{rules}
 use Rattle.state.proofs.state.open_state.Goals as goal
 use Rattle.state.proofs.state.open_state.Goals.{After-open_fault-fault}
 

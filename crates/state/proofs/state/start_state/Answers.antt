@@ -1,5 +1,4 @@
 use Rattle.state.proofs.NumberLaws.{start-refused, start-done}
-use borrow.Author.Rules.{rules}
 use Rattle.state.proofs.state.start_state.Goals as goal
 
 pub returns-then-bad_size : goal.returns-then-bad_size

@@ -1,6 +1,5 @@
 use native.Mathlib.Omega.{arith}
 use Rattle.state.proofs.NumberLaws.{tested-long, words-bad, words-full, words-there}
-use borrow.Author.Rules.{rules}
 use Rattle.state.proofs.state.words_of.Goals as goal
 
 pub returns-then-bad_state : goal.returns-then-bad_state

@@ -1,5 +1,4 @@
 -- `given_at`: the bit is the word's. Assumes nothing.
-use borrow.Author.Rules.{rules}
 use Rattle.steps.proofs.ahead.given_at.Goals as goal
 
 pub returns : goal.returns

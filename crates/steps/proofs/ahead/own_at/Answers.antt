@@ -1,5 +1,4 @@
 -- `own_at`: the bits are the word's. Assumes nothing.
-use borrow.Author.Rules.{rules}
 use Rattle.steps.proofs.ahead.own_at.Goals as goal
 
 pub returns : goal.returns

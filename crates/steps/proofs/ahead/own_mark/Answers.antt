@@ -1,5 +1,4 @@
 -- `own_mark`: one arm for each question. Assumes nothing.
-use borrow.Author.Rules.{rules}
 use Rattle.steps.proofs.ahead.own_mark.Goals as goal
 
 pub returns-in-Until : goal.returns-in-Until

@@ -1,6 +1,5 @@
 -- `back_word`: the mark is put above the bits below i. Assumes nothing.
 use native.Mathlib.Nat.{mod-eq_of_lt}
-use borrow.Author.Rules.{rules}
 use Rattle.steps.proofs.back.back_word.Goals as goal
 
 pub returns-then-until : goal.returns-then-until

@@ -2,7 +2,6 @@
 use Prim.Native.Nat.{◌^◌, ◌/◌}
 use Rattle.numbers.proofs.Masks.{low-until}
 use Rattle.numbers.specs.Bits.{in_word}
-use borrow.Author.Rules.{rules}
 use Rattle.steps.proofs.back.until_mark.Goals as goal
 
 pub returns : goal.returns

@@ -1,6 +1,5 @@
 -- `column`: one arm for each axis. Assumes nothing.
 use Rattle.steps.specs.Steps.{column_of}
-use borrow.Author.Rules.{rules}
 use Rattle.steps.proofs.column.column.Goals as goal
 
 pub returns-in-Child : goal.returns-in-Child

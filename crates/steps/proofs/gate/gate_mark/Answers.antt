@@ -3,7 +3,6 @@ use Prim.Native.Nat.{◌^◌, ◌/◌}
 use Rattle.steps.proofs.Gates.{gate-low}
 use Rattle.steps.specs.Steps.{gate_mark}
 use Rattle.numbers.specs.Bits.{in_word}
-use borrow.Author.Rules.{rules}
 use Rattle.steps.proofs.gate.gate_mark.Goals as goal
 
 pub returns : goal.returns

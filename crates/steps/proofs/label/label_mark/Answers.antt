@@ -1,5 +1,4 @@
 -- `label_mark`: a label is the number that it is as an index. Assumes nothing.
-use borrow.Author.Rules.{rules}
 use Rattle.steps.proofs.label.label_mark.Goals as goal
 
 pub returns : goal.returns

@@ -2,7 +2,6 @@
 use native.Mathlib.Omega.{arith}
 use Rattle.numbers.proofs.Masks.{one_shifted, masked-bit}
 use Rattle.numbers.specs.Bits.{in_word}
-use borrow.Author.Rules.{rules}
 use Rattle.steps.proofs.word.low_with_bit.Goals as goal
 
 pub overflow_sub-result : goal.overflow_sub-result

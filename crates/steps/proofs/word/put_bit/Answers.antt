@@ -1,7 +1,6 @@
 -- `put_bit`: a test is a number below 2. Assumes nothing.
 use native.Mathlib.Nat.{mod-eq_of_lt}
 use Rattle.numbers.proofs.BitLaws.{bit-small}
-use borrow.Author.Rules.{rules}
 use Rattle.steps.proofs.word.put_bit.Goals as goal
 
 pub returns : goal.returns

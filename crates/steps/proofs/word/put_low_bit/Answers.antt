@@ -3,7 +3,6 @@ use Prim.Native.Nat.{◌%◌}
 use native.Mathlib.Omega.{arith}
 use Rattle.numbers.proofs.Masks.{shifted-number}
 use Rattle.numbers.specs.Bits.{in_word}
-use borrow.Author.Rules.{rules}
 use Rattle.steps.proofs.word.put_low_bit.Goals as goal
 
 pub returns : goal.returns

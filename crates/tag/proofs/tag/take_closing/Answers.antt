@@ -2,7 +2,6 @@
 use native.Mathlib.Omega.{arith}
 use mathlib.Core.Path.{sym, ◌∙◌}
 use Rattle.tag.proofs.RecordLaws.{length-closes, record-wrong, record-closes}
-use borrow.Author.Rules.{rules}
 use Rattle.tag.proofs.tag.take_closing.Goals as goal
 
 pub returns-then-number_at-ne2 : goal.returns-then-number_at-ne2

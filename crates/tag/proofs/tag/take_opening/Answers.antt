@@ -2,7 +2,6 @@
 use native.Mathlib.Omega.{arith}
 use mathlib.Core.Path.{sym, ◌∙◌}
 use Rattle.tag.proofs.RecordLaws.{length-opens, record-wrong, record-past, record-opens}
-use borrow.Author.Rules.{rules}
 use Rattle.tag.proofs.tag.take_opening.Goals as goal
 
 pub returns-then-number_at-ne4 : goal.returns-then-number_at-ne4

@@ -2,7 +2,6 @@
 use native.Mathlib.Omega.{arith}
 use mathlib.Core.Path.{refl, ◌∙◌}
 use Rattle.tag.proofs.RecordLaws.{record-few, record-unknown, length_none}
-use borrow.Author.Rules.{rules}
 use Rattle.tag.proofs.tag.take_tag.Goals as goal
 
 pub returns-then-s-at : goal.returns-then-s-at

@@ -3,7 +3,6 @@ use native.Mathlib.Omega.{arith}
 use mathlib.Core.Path.{sym, ◌∙◌}
 use Rattle.tally.specs.Tally.{risen}
 use Rattle.tally.proofs.Laws.{refused-not, tallied-refused, tallied-taken}
-use borrow.Author.Rules.{rules}
 use Rattle.tally.proofs.export.count.Goals as goal
 
 pub returns-then-is_refused : goal.returns-then-is_refused

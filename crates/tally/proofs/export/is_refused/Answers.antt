@@ -1,7 +1,6 @@
 -- `is_refused` answers the test of the specification. Assumes nothing.
 use mathlib.Core.Path.{refl}
 use Rattle.tally.specs.Tally.{tally_refused}
-use borrow.Author.Rules.{rules}
 use Rattle.tally.proofs.export.is_refused.Goals as goal
 
 pub returns : goal.returns

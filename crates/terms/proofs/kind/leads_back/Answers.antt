@@ -1,6 +1,5 @@
 -- `leads_back`: one arm for each axis. Assumes nothing.
 use Rattle.terms.specs.Kinds.{leads_back}
-use borrow.Author.Rules.{rules}
 use Rattle.terms.proofs.kind.leads_back.Goals as goal
 
 pub returns-in-Child : goal.returns-in-Child

@@ -1,6 +1,5 @@
 -- `looks_back`: one arm for each shape. Assumes nothing.
 use Rattle.terms.specs.Kinds.{shape_looks_back}
-use borrow.Author.Rules.{rules}
 use Rattle.terms.proofs.kind.looks_back.Goals as goal
 
 pub returns-in-Nothing : goal.returns-in-Nothing

@@ -6,7 +6,6 @@ use lib.ListN.{get_or-eq_default}
 use Rattle.terms.specs.Kinds.{row, no_kind, kind_rows, row_of, axis_of, local_numbers, numbers_of}
 use Rattle.terms.specs.declared.kind.Shape.TheVariants.{SomeAlong, UntilAlong}
 use Rattle.terms.proofs.KindLaws.{each}
-use borrow.Author.Rules.{rules}
 use Rattle.terms.proofs.kind.row_of.Goals as goal
 
 pub returns-in-14 : goal.returns-in-14

@@ -2,7 +2,6 @@
 use native.Mathlib.Omega.{arith}
 use Rattle.text.proofs.DecimalLaws.{decimal-one, decimal-more, decimal-some, decimal-longer}
 use Rattle.text.proofs.PutLaws.{put_one, put_then}
-use Prim.Native.Nat.{ℕ, ◌<◌}
 use Rattle.text.proofs.put.+put_decimal.Goals as goal
 
 pub overflow_add-out : goal.overflow_add-out

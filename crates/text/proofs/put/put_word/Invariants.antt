@@ -1,9 +1,7 @@
 -- `put_word` copies byte by byte: at every turn the first i bytes of the word have been put. Assumes nothing.
 use Prim.Native.Nat.{◌+◌, ◌-◌, ◌≤◌}
-use native.Mathlib.Omega.{arith}
 use lib.ListN.{length, take}
 use Rattle.text.specs.Rendered.{Put}
-use Rattle.text.proofs.PutLaws.{put-none, put-turn, put_all}
 use Rattle.text.proofs.put.put_word.Given as goal
 
 abbrev pub invariant-loop-i : goal.invariant-loop-i

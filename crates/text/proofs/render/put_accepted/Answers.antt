@@ -3,7 +3,6 @@ use native.Mathlib.Omega.{arith}
 use Rattle.text.specs.Text.{ascii, header_line, closing_line}
 use Rattle.text.proofs.PutLaws.{accepted-rendered}
 use Rattle.text.proofs.Room.{phrase-short}
-use borrow.Author.Rules.{rules}
 use Rattle.text.proofs.render.put_accepted.Goals as goal
 
 pub put_phrase-requires : goal.put_phrase-requires

@@ -3,7 +3,6 @@ use native.Mathlib.Omega.{arith}
 use Rattle.text.specs.Text.{element_line}
 use Rattle.text.proofs.PutLaws.{put_then}
 use Rattle.text.proofs.Room.{element-length}
-use borrow.Author.Rules.{rules}
 use Rattle.text.proofs.render.put_element.Goals as goal
 
 pub put_field-a-requires : goal.put_field-a-requires

@@ -1,9 +1,5 @@
 -- `put_elements`: at every turn the lines of the first i elements have been put, of 19 bytes each at most. Assumes nothing.
-use Prim.Native.Nat.{◌+◌, ◌*◌, ◌-◌, ◌≤◌}
 use native.Mathlib.Omega.{arith}
-use mathlib.Core.List.{flatten}
-use Rattle.text.specs.Text.{element_lines}
-use Rattle.text.specs.Rendered.{Put, verdict_in}
 use Rattle.text.proofs.PutLaws.{elements-none, elements-turn, elements-all}
 use Rattle.text.proofs.Room.{element-short}
 use Rattle.text.proofs.render.put_elements.Goals as goal

@@ -3,7 +3,6 @@ use native.Mathlib.Omega.{arith}
 use Rattle.text.specs.Text.{refused_line, ascii}
 use Rattle.text.proofs.PutLaws.{put-rendered}
 use Rattle.text.proofs.Room.{phrase-short, phrase-fits}
-use borrow.Author.Rules.{rules}
 use Rattle.text.proofs.render.put_refused.Goals as goal
 
 pub put_phrase-requires : goal.put_phrase-requires

@@ -1,6 +1,5 @@
 use native.Mathlib.Omega.{arith}
 use Rattle.typing.proofs.Answered.{place-small, typed-stopped, typed-many, typed-short, bytes_small, typed-asks, typed-taken}
-use borrow.Author.Rules.{rules}
 use Rattle.typing.proofs.export.pz_read_path.Goals as goal
 
 pub overflow_cast-p : goal.overflow_cast-p

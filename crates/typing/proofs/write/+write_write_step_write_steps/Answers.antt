@@ -1,17 +1,15 @@
 -- `write` calls itself on rows below its own and `write_steps` on its own row, `write_steps` calls `write_step` on that row and then, with
 -- more entries written, on those that it leads to, and `write_step` calls `write` on a row below. Assumes nothing.
-use Prim.Native.Nat.{◌+◌, ◌≤◌}
 use native.Mathlib.Omega.{arith}
-use mathlib.Core.Logic.{⊎_elim}
 use Rattle.spell.specs.Promises.{written}
 use borrow.Author.Rules.{rules}
 use mathlib.Core.Path.{◌≡◌}
 use mathlib.Core.List.{List}
 use Rattle.typing.specs.declared.part.Part.{Part}
 use Rattle.typing.specs.Writing.{part_at}
-use Rattle.typing.proofs.Below.{OfStep, Says, step-row, test-row}
-use Rattle.typing.proofs.Writer.{todo, leaf-put, not_first, not-put, or-first, or-second, or_put, path-first, path-second, path-put, plain-put, tested-first, tested-put, steps_first, Along, along-none, along-last, along-less, along-more}
-use Prim.Native.Nat.{ℕ, ◌<◌}
+use Rattle.typing.proofs.Below.{Says, step-row, test-row}
+use Rattle.typing.proofs.Writer.{leaf-put, not_first, not-put, or-first, or-second, or_put, path-first, path-second, path-put, plain-put, tested-first, tested-put, steps_first, along-none, along-last, along-less, along-more}
+use Prim.Native.Nat.{ℕ}
 use Rattle.typing.proofs.write.+write_write_step_write_steps.Goals as goal
 
 -- The row is read,

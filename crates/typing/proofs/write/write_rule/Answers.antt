@@ -1,6 +1,5 @@
 -- `write_rule` starts the writer with nothing written. Assumes nothing.
 use Rattle.typing.proofs.Whole.{whole-asks, whole-puts}
-use borrow.Author.Rules.{rules}
 use Rattle.typing.proofs.write.write_rule.Goals as goal
 
 pub write-requires : goal.write-requires

@@ -1,5 +1,4 @@
 -- `local_bit`: one arm for each. Assumes nothing.
-use borrow.Author.Rules.{rules}
 use Rattle.meaning.specs.Marks.{means_here}
 use Rattle.walk.proofs.step.local_bit.Goals as goal
 

@@ -1,5 +1,4 @@
 -- `step_bit` gives each shape its bit. Assumes nothing.
-use borrow.Author.Rules.{rules}
 use Rattle.meaning.specs.OnePass.{step_bit}
 use Rattle.walk.proofs.step.step_bit.Goals as goal
 

@@ -1,5 +1,4 @@
 -- `word_to`: one arm for each. Assumes nothing.
-use borrow.Author.Rules.{rules}
 use Rattle.meaning.specs.OnePass.{word_to}
 use Rattle.walk.proofs.step.word_to.Goals as goal
 

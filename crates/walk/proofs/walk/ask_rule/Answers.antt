@@ -1,14 +1,11 @@
 -- `ask_rule`: each turn takes one record and asks whether it looks ahead. Assumes nothing.
 use native.Mathlib.Omega.{arith}
 use mathlib.Core.Path.{refl, ap}
-use Prim.Native.Nat.{◌-◌}
-use borrow.Author.Rules.{rules}
-use lib.ListN.{length}
 use Rattle.terms.specs.declared.kind.Row.{Row}
 use Rattle.terms.proofs.Reading.{mid_start}
 use Rattle.rules.proofs.RuleLaws.{Onward, rule-onward, rule-empty, rule-long}
 use Rattle.walk.specs.Walk.{looks_ahead}
-use Rattle.walk.proofs.WalkLaws.{AskMid, ahead-then, ask-done, ask-none}
+use Rattle.walk.proofs.WalkLaws.{ahead-then, ask-done, ask-none}
 use Rattle.rules.proofs.EntryLaws.{halts-ended, halts-faulty, entries_none, entries-many}
 use Rattle.numbers.specs.Lists.{listed}
 use Rattle.walk.proofs.walk.ask_rule.Goals as goal

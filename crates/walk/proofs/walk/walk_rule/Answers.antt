@@ -1,16 +1,13 @@
 -- `walk_rule`: each turn takes one record, asks whether it looks ahead, and adds its bit. Assumes nothing.
 use native.Mathlib.Omega.{arith}
 use mathlib.Core.Path.{refl, ap, ◌∙◌}
-use Prim.Native.Nat.{◌-◌}
-use lib.ListN.{length}
 use Rattle.terms.specs.declared.kind.Row.{Row}
 use Rattle.terms.proofs.Reading.{mid_start}
 use Rattle.rules.proofs.RuleLaws.{Onward, rule-onward, rule-empty, rule-long}
 use Rattle.meaning.specs.OnePass.{step_word}
 use Rattle.walk.specs.Walk.{looks_ahead}
 use Rattle.meaning.proofs.StepTable.{step_small}
-use Rattle.walk.proofs.WalkLaws.{StepMid, word_more, ahead-then, walk-done, walk_none}
-use borrow.Author.Rules.{rules}
+use Rattle.walk.proofs.WalkLaws.{word_more, ahead-then, walk-done, walk_none}
 use Rattle.rules.proofs.EntryLaws.{halts-ended, halts-faulty, entries_none, entries-many}
 use Rattle.numbers.specs.Lists.{listed}
 use Rattle.walk.proofs.walk.walk_rule.Goals as goal

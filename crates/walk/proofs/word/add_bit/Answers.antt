@@ -2,7 +2,6 @@
 use native.Mathlib.Omega.{arith}
 use lib.Bits.{or_shifted_r}
 use lib.Pow.{shl_exact}
-use borrow.Author.Rules.{rules}
 use Rattle.numbers.specs.Bits.{bit, word_bits}
 use Rattle.numbers.proofs.BitLaws.{bit-small}
 use Rattle.walk.proofs.word.add_bit.Goals as goal

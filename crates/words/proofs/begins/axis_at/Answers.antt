@@ -5,7 +5,6 @@ use Rattle.paths.specs.Spelling.{axis_word}
 use Rattle.paths.specs.Translation.{neighbour_kind}
 use Rattle.words.specs.Words.{head_of}
 use Rattle.words.proofs.BeginLaws.{axis-first, axis-other}
-use borrow.Author.Rules.{rules}
 use Rattle.words.proofs.begins.axis_at.Goals as goal
 
 pub returns-then-b-eq99 : goal.returns-then-b-eq99

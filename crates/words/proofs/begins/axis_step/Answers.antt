@@ -2,7 +2,6 @@ use native.Mathlib.Omega.{arith}
 use mathlib.Core.Path.{sym, ◌∙◌}
 use Rattle.words.proofs.BeginLaws.{axis-kind, step-none, step-tested, step-stray, step-star, step-plain}
 use Rattle.words.proofs.WordLaws.{front}
-use borrow.Author.Rules.{rules}
 use Rattle.words.proofs.begins.axis_step.Goals as goal
 
 pub overflow_add-result : goal.overflow_add-result

@@ -1,9 +1,7 @@
 use native.Mathlib.Omega.{arith}
 use mathlib.Core.Path.{sym, ◌∙◌}
-use borrow.Author.Tests.{not-true, not-false}
 use Rattle.words.proofs.BeginLaws.{begin-either, begin-path, begin-close, begin-spaced, begin-other}
 use Rattle.words.proofs.WordLaws.{front}
-use borrow.Author.Rules.{rules}
 use Rattle.words.proofs.begins.begins_at.Goals as goal
 
 pub returns-then-b-eq40 : goal.returns-then-b-eq40

@@ -1,7 +1,6 @@
 use native.Mathlib.Omega.{arith}
 use Rattle.words.proofs.BeginLaws.{label-bare, label-whole}
 use Rattle.words.proofs.WordLaws.{digits-fit}
-use borrow.Author.Rules.{rules}
 use Rattle.words.proofs.begins.label_of.Goals as goal
 
 pub overflow_add-result : goal.overflow_add-result

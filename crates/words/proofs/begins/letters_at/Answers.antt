@@ -1,7 +1,6 @@
 use mathlib.Core.Path.{◌∙◌}
 use Rattle.text.specs.Text.{ascii}
 use Rattle.words.proofs.BeginLaws.{letters-true, letters-label, letters-not, letters-other}
-use borrow.Author.Rules.{rules}
 use Rattle.words.proofs.begins.letters_at.Goals as goal
 
 pub returns-then-b-eq116 : goal.returns-then-b-eq116

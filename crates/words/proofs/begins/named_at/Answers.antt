@@ -1,6 +1,5 @@
 use mathlib.Core.Path.{ap}
 use Rattle.words.specs.Begins.{named_of}
-use borrow.Author.Rules.{rules}
 use Rattle.words.proofs.begins.named_at.Goals as goal
 
 pub returns-in-Missing : goal.returns-in-Missing

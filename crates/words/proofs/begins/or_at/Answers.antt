@@ -1,6 +1,5 @@
 use mathlib.Core.Path.{◌∙◌}
 use Rattle.words.proofs.BeginLaws.{or-spaced, or-close}
-use borrow.Author.Rules.{rules}
 use Rattle.words.proofs.begins.or_at.Goals as goal
 
 pub returns-then-after : goal.returns-then-after

@@ -1,7 +1,6 @@
 use native.Mathlib.Omega.{arith}
 use mathlib.Core.Path.{◌∙◌}
 use Rattle.words.proofs.BeginLaws.{start_test, start-axis, bracket-fits}
-use borrow.Author.Rules.{rules}
 use Rattle.words.proofs.begins.start_at.Goals as goal
 
 pub returns-then-b-eq63 : goal.returns-then-b-eq63

@@ -1,4 +1,3 @@
-use borrow.Author.Rules.{rules}
 use Rattle.words.proofs.begins.true_of.Goals as goal
 
 pub returns-in-Missing : goal.returns-in-Missing

@@ -1,10 +1,7 @@
-use borrow.Author.Rules.{rules}
 use Prim.Native.Nat.{◌+◌, ◌-◌, ◌≤◌, ◌<◌}
-use native.Mathlib.Omega.{arith}
 use mathlib.Core.Path.{◌≡◌}
 use lib.ListN.{length, drop}
 use Rattle.paths.proofs.Descent.{agree}
-use Rattle.words.proofs.WordLaws.{agree-past, agree-start, agree-ended, agree-differs, agree_same}
 use Rattle.words.proofs.words.agreed.Given as goal
 
 abbrev pub invariant-loop-i : goal.invariant-loop-i

@@ -1,6 +1,5 @@
 use native.Mathlib.Omega.{arith}
 use Rattle.words.proofs.WordLaws.{head_in, head-out}
-use borrow.Author.Rules.{rules}
 use Rattle.words.proofs.words.byte_at.Goals as goal
 
 pub returns-then-at-s : goal.returns-then-at-s

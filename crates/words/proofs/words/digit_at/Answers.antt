@@ -1,6 +1,5 @@
 use native.Mathlib.Omega.{arith}
 use Rattle.words.proofs.WordLaws.{digit-byte, digit-is, digit_not}
-use borrow.Author.Rules.{rules}
 use Rattle.words.proofs.words.digit_at.Goals as goal
 
 pub overflow_sub-result : goal.overflow_sub-result

@@ -1,6 +1,5 @@
 use native.Mathlib.Omega.{arith}
 use Rattle.words.proofs.WordLaws.{agree-fits, word-whole, word_cut}
-use borrow.Author.Rules.{rules}
 use Rattle.words.proofs.words.fixed_at.Goals as goal
 
 pub overflow_add-result : goal.overflow_add-result

@@ -1,7 +1,6 @@
 use native.Mathlib.Omega.{arith}
 use Prim.Native.Nat.{◌+◌}
 use Rattle.words.proofs.WordLaws.{digit-there, none_found, one_found, two-found, three-found}
-use borrow.Author.Rules.{rules}
 use Rattle.words.proofs.words.numeral_at.Goals as goal
 
 pub returns-then-one-eq-NO_DIGIT : goal.returns-then-one-eq-NO_DIGIT
