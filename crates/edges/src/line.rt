@@ -1,8 +1,9 @@
 // From a line to the bytes of its rule and its report, one character after the other.
-ghost use Rattle.std.specs.Prelude.{◌≤◌, ◌<◌};
+ghost use Rattle.std.specs.Prelude.{◌≤◌, ◌<◌, IfOk};
 ghost use Rattle.edges.specs.Line.{Sound};
 
 use crate::answer::{put_answer, put_byte, put_unread};
+use std::io;
 
 // Where in a line a character stands; UNREAD from the first one on that cannot be read.
 const START: usize = 0;
@@ -57,11 +58,10 @@ fn empty_line(part: usize) -> Line
     begun(part, 2, 2)
 }
 
-// A character of the name is written as it is; a colon ends the name.
+// A character of the name; a colon ends it.
 fn with_name(c: u8) -> Line
     ensures { Sound result }
 {
-    put_byte(c);
     let part = if c == b':' { RULE } else { NAME };
     empty_line(part)
 }
@@ -116,10 +116,8 @@ fn with_number(mut line: Line, bytes: &mut [u8; 65536]) -> Line
 fn repeat(bytes: &mut [u8; 65536], count: usize, from: usize, end: usize)
     requires { (count ≤ from) × (end ≤ 65536) }
 {
-    let mut i = from;
-    while i < end {
+    for i in from..end {
         bytes[i] = bytes[i - count];
-        i += 1;
     }
 }
 
@@ -177,38 +175,39 @@ fn with_sign(mut line: Line, c: u8, bytes: &mut [u8; 65536]) -> Line
 }
 
 // Answers a line at its end; nothing to a blank one.
-fn end(line: Line, bytes: &[u8; 65536])
+fn end(rt: &impl Print, line: Line, bytes: &[u8; 65536]) -> io::Result<()>
     requires { Sound line }
 {
     if line.part == WORDS {
-        put_answer(bytes, line.rule, line.size, line.number);
+        put_answer(rt, bytes, line.rule, line.size, line.number)
     } else if line.part != START {
-        put_unread();
+        put_unread(rt)
+    } else {
+        Ok(())
     }
 }
 
-// What is known of a line with one character more.
-fn with(line: Line, c: u8, bytes: &mut [u8; 65536]) -> Line
+// What is known of a line with one character more. The name is written as it is.
+fn with(rt: &impl Print, line: Line, c: u8, bytes: &mut [u8; 65536]) -> io::Result<Line>
     requires { Sound line }
-    ensures { Sound result }
+    ensures { IfOk result Sound }
 {
     if c == b'\n' {
-        end(line, bytes);
-        return empty_line(START);
+        end(rt, line, bytes)?;
+        return Ok(empty_line(START));
     }
     if line.part <= NAME {
-        return with_name(c);
+        put_byte(rt, c)?;
+        return Ok(with_name(c));
     }
-    with_sign(line, c, bytes)
+    Ok(with_sign(line, c, bytes))
 }
 
 // Answers every line, the last one also where no line feed ends it.
-pub(crate) fn run(text: &[u8], bytes: &mut [u8; 65536]) {
+pub(crate) fn run(rt: &impl Print, text: &[u8], bytes: &mut [u8; 65536]) -> io::Result<()> {
     let mut line = empty_line(START);
-    let mut i: usize = 0;
-    while i < text.len() {
-        line = with(line, text[i], bytes);
-        i += 1;
+    for c in text {
+        line = with(rt, line, *c, bytes)?;
     }
-    end(line, bytes);
+    end(rt, line, bytes)
 }

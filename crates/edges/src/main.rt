@@ -5,15 +5,35 @@
 // numbers of two bytes that it has, a comma stands between two records, and `N*` puts its record N
 // times. What is written is the name and what is answered; where the number of words is left out,
 // the record that the program prints. A line that cannot be read says so, so that no case is passed
-// over.
+// over. A read or a write that fails ends the program with its error.
 #![tactic(auto)]
+
+ghost use Rattle.std.specs.Prelude.{◌≤◌, IfOk, length};
+
+use std::io;
+use std::io::Read;
 
 mod answer;
 mod line;
 
-fn main() {
-    let mut text = io::large_buffer();
-    let n = io::read_full(0, &mut text);
-    let mut bytes = io::large_buffer();
-    line::run(&text[..n], &mut bytes);
+// Reads until the buffer is full or the input ends, and returns how many bytes were read.
+fn read_full(from: &mut impl Read, buf: &mut [u8]) -> io::Result<usize>
+    ensures { IfOk result (λ n. n ≤ length buf.new) }
+{
+    let mut done = 0;
+    while done < buf.len() {
+        let n = from.read(&mut buf[done..])?;
+        if n == 0 {
+            break;
+        }
+        done += n;
+    }
+    Ok(done)
+}
+
+fn main(rt: HostRuntime) -> io::Result<()> {
+    let mut text = [0u8; 65536];
+    let n = read_full(&mut rt.stdin(), &mut text)?;
+    let mut bytes = [0u8; 65536];
+    line::run(&rt, &text[..n], &mut bytes)
 }

@@ -2,19 +2,44 @@
 //
 // The input is a rule's length in two bytes, low byte first, the rule, and the report to the end;
 // at most 65,536 bytes are read. What is printed is a proved function of these bytes (`put_printout`
-// of the crate judge); `main` only moves them. A program of this language has no exit status, so a
-// record that could not be written whole is said on standard error.
+// of the crate judge); `main` only moves them. A record that could not be written whole is said on
+// standard error, and then the error that was met ends the program, with exit status 1.
 #![tactic(auto)]
 
-fn main() {
-    let mut input = io::large_buffer();
-    let n = io::read_full(0, &mut input);
+ghost use Rattle.std.specs.Prelude.{◌≤◌, IfOk, length};
+
+use std::io;
+use std::io::Read;
+
+// Reads until the buffer is full or the input ends, and returns how many bytes were read. Where
+// nothing can be read at all, as with no standard input, the input is empty. A read that fails later
+// is an error: the input did not end there, so nothing is printed of that part.
+fn read_full(from: &mut impl Read, buf: &mut [u8]) -> io::Result<usize>
+    ensures { IfOk result (λ n. n ≤ length buf.new) }
+{
+    let mut done = 0;
+    while done < buf.len() {
+        let n = match from.read(&mut buf[done..]) {
+            Ok(n) => n,
+            Err(e) if done > 0 => return Err(e),
+            Err(_) => 0,
+        };
+        if n == 0 {
+            break;
+        }
+        done += n;
+    }
+    Ok(done)
+}
+
+fn main(rt: HostRuntime) -> io::Result<()> {
+    let mut input = [0u8; 65536];
+    let n = read_full(&mut rt.stdin(), &mut input)?;
     let mut out = [0u8; text::put::TEXT_BYTES];
     let m = judge::judge::put_printout(&input[..n], &mut out);
-    if !io::write_all(1, &out[..m]) {
-        io::write_all(
-            2,
-            b"polonezar: the record was not written whole; nothing may be decided by it\n",
-        );
+    let written = rt.write_all(&out[..m]);
+    if written.is_err() {
+        eprintln!(rt; "polonezar: the record was not written whole; nothing may be decided by it")?;
     }
+    written
 }
