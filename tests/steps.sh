@@ -62,8 +62,10 @@ link_with() {
     fi
 }
 
-# finish: the last line, and the exit status.
+# finish: the last line, and the exit status. Links that steps made are removed, since `rt ci` stops at any link in the
+# checkout.
 finish() {
+    find "$out" -type l -delete
     echo "$passed passed, $failed failed"
     [ "$failed" -eq 0 ]
 }
