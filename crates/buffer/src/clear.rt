@@ -6,7 +6,7 @@ pub fn clear(words: &mut [u64])
     ensures { words.new ≡ replicate (length words.old) 0 }
 {
     let mut s: usize = 0;
-    while s < words.len() {
+    'all: while s < words.len() {
         words[s] = 0;
         s += 1;
     }

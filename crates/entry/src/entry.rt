@@ -86,7 +86,8 @@ fn whole_entry(row: Row, own: usize, e: Entry, at: usize, next: usize) -> Taken
 pub fn take_entry(s: &[u8], own: usize, at: usize) -> Taken
     ensures { (result ≡ taken_at s.now own at) × (result.entry.kind < 65536) × (result.entry.a < 65536) × (result.entry.b < 65536) }
 {
-    if ENTRIES_MOST <= own {
+    let full = ENTRIES_MOST <= own;
+    if full {
         return faulty(4, at);
     }
     if s.len() < 4 {

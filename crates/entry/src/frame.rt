@@ -11,10 +11,13 @@ pub(crate) fn frame_of(s: &[u8], at: usize, expected: usize) -> Frame
     requires { at + 4 ≤ length s.now }
     ensures { result ≡ frame_of s.now at expected }
 {
-    if expected == 0 {
+    let unknown = expected == 0;
+    if unknown {
         return Frame::Garbled;
     }
-    if number_at(s, at) != expected {
+    let length = number_at(s, at);
+    let other_length = length != expected;
+    if other_length {
         return Frame::Garbled;
     }
     if s.len() - at - 2 < expected {

@@ -9,9 +9,6 @@ pub const WORD_BITS: usize = 64;
 pub fn bit_at(w: u64, a: usize) -> bool
     ensures { result ≡ bit_at w a }
 {
-    if a < WORD_BITS {
-        (w >> a) % 2 == 1
-    } else {
-        false
-    }
+    let inside = a < WORD_BITS;
+    if inside { (w >> a) % 2 == 1 } else { false }
 }

@@ -39,7 +39,10 @@ fn main(rt: HostRuntime) -> io::Result<()> {
     let m = judge::judge::put_printout(&input[..n], &mut out);
     let written = rt.write_all(&out[..m]);
     if written.is_err() {
-        eprintln!(rt; "polonezar: the record was not written whole; nothing may be decided by it")?;
+        // Where this cannot be said either, the error that ends the program is still the record's.
+        let _ = eprintln!(rt;
+            "polonezar: the record was not written whole; nothing may be decided by it"
+        );
     }
     written
 }

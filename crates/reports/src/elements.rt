@@ -42,10 +42,12 @@ fn put_opened(
 pub fn read_elements(report: &[u8], labels: &mut [u16], levels: &mut [u16]) -> Answer
     ensures { ElementsTaken report.now labels.old levels.old result labels.new levels.new }
 {
-    if report.len() < 1 {
+    let empty = report.len() < 1;
+    if empty {
         return Answer::Refused(5, 0);
     }
-    if REPORT_MOST < report.len() {
+    let too_long = REPORT_MOST < report.len();
+    if too_long {
         return Answer::Refused(5, 0);
     }
     let mut at: usize = 0;
@@ -57,7 +59,8 @@ pub fn read_elements(report: &[u8], labels: &mut [u16], levels: &mut [u16]) -> A
             break end_of(report.len(), depth, elements);
         }
         let taken = take_tag(report, at, depth, elements);
-        if taken.fault != 0 {
+        let faulty = taken.fault != 0;
+        if faulty {
             break Answer::Refused(taken.fault, at);
         }
         put_opened(taken.opening, elements, taken.label, depth, labels, levels);

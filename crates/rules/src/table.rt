@@ -26,10 +26,12 @@ fn put_numbers(kind: usize, a: usize, b: usize, i: usize, table: &mut [u16; ENTR
 pub fn read_entries(rule: &[u8], table: &mut [u16; ENTRY_PLACES]) -> Answer
     ensures { EntriesTaken rule.now table.old result table.new }
 {
-    if rule.len() < 1 {
+    let empty = rule.len() < 1;
+    if empty {
         return Answer::Refused(1, 0);
     }
-    if RULE_MOST < rule.len() {
+    let too_long = RULE_MOST < rule.len();
+    if too_long {
         return Answer::Refused(1, 0);
     }
     let mut at: usize = 0;

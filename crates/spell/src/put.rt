@@ -30,7 +30,8 @@ fn put_body(rule: &mut [u8], at: usize, arguments: usize, a: u16, b: u16) -> usi
     requires { at + length (numbers arguments a b) ≤ length rule.old }
     ensures { Put (numbers arguments a b) rule.old at result rule.new }
 {
-    if arguments == 0 {
+    let none = arguments == 0;
+    if none {
         return at;
     }
     let next = put_number(rule, at, a);

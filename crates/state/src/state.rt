@@ -70,7 +70,8 @@ pub fn open_state(state: &mut [u8], label: usize, w: u64) -> u32
     let elements = number_at(state, ELEMENTS);
     let root = number_at(state, ROOT);
     let fault = open_fault(d, elements, root == 1, label);
-    if fault == 0 {
+    let fine = fault == 0;
+    if fine {
         store_opening(state, d, elements, w);
     }
     fault
@@ -85,7 +86,8 @@ pub fn close_state(state: &mut [u8]) -> u32
     }
     let d = number_at(state, DEPTH);
     let number = close_fault(d);
-    if number == 0 {
+    let fine = number == 0;
+    if fine {
         store_closing(state, d - 1);
     }
     number

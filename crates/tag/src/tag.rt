@@ -30,7 +30,8 @@ pub fn open_fault(depth: usize, elements: usize, root_closed: bool, label: usize
 pub fn close_fault(depth: usize) -> u32
     ensures { result ≡ tag_fault depth 0 false closes }
 {
-    if depth == 0 { 7 } else { 0 }
+    let nothing_open = depth == 0;
+    if nothing_open { 7 } else { 0 }
 }
 
 // What the record at an offset is taken for: its number, 0 where it has no fault; whether it opens an
@@ -59,7 +60,8 @@ fn take_opening(s: &[u8], at: usize, depth: usize, elements: usize) -> TakenTag
     requires of_kind { kind_at s.now at ≡ 1 }
     ensures { (result ≡ tag_taken s.now at depth elements) × (result.label < 65536) }
 {
-    if number_at(s, at) != 4 {
+    let other_length = number_at(s, at) != 4;
+    if other_length {
         return broken_tag();
     }
     if s.len() - at < 6 {
@@ -79,7 +81,8 @@ fn take_closing(s: &[u8], at: usize, depth: usize, elements: usize) -> TakenTag
     requires of_kind { kind_at s.now at ≡ 2 }
     ensures { (result ≡ tag_taken s.now at depth elements) × (result.label < 65536) }
 {
-    if number_at(s, at) != 2 {
+    let other_length = number_at(s, at) != 2;
+    if other_length {
         return broken_tag();
     }
     TakenTag {

@@ -43,7 +43,8 @@ pub fn count(t: Tally, verdict: bool) -> Counted
             tally: t,
         };
     }
-    if verdict {
+    let selects = verdict;
+    if selects {
         Counted {
             number: 0,
             tally: Tally {

@@ -12,7 +12,8 @@ pub(crate) fn put_decimal(out: &mut [u8; TEXT_BYTES], at: usize, x: usize) -> us
     requires { at + length (decimal x) ≤ buffer_size }
     ensures { Put (decimal x) out.old at result out.new }
 {
-    if x < 10 {
+    let one_digit = x < 10;
+    if one_digit {
         out[at] = (48 + x) as u8;
         return at + 1;
     }

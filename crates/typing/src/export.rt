@@ -37,7 +37,8 @@ pub extern "C" fn pz_read_path(text: &[u8], rule: &mut [u8]) -> PathReply
     match read_tree(text, &mut rows) {
         Outcome::Stopped(p) => refused(13, p as u32),
         Outcome::Text(entries, bytes) => {
-            if ENTRIES_MOST < entries {
+            let too_many = ENTRIES_MOST < entries;
+            if too_many {
                 return refused(14, 0);
             }
             if rule.len() < bytes {

@@ -110,7 +110,8 @@ pub fn begins_at(s: &[u8], at: usize, after: bool) -> Begin
     if b == 60 {
         return Begin::Path;
     }
-    if !after {
+    let unspaced = !after;
+    if unspaced {
         return letters_at(s, at);
     }
     if b == 32 {

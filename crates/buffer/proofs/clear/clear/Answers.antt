@@ -7,8 +7,8 @@ use lib.ListN.{length, length-set}
 use lib.Seq.{drop-length}
 use Rattle.buffer.proofs.clear.clear.Goals as goal
 
-pub loop-s-init : goal.loop-s-init
-loop-s-init c = (refl, omega arith, refl)
+pub all-init : goal.all-init
+all-init c = (refl, omega arith, refl)
 
 pub offset_bounds-words-s : goal.offset_bounds-words-s
 offset_bounds-words-s c = omega arith
@@ -19,18 +19,18 @@ bounds-words-s c = omega arith
 pub overflow_add-s : goal.overflow_add-s
 overflow_add-s c = omega arith
 
-pub loop-s-smaller : goal.loop-s-smaller
-loop-s-smaller c = omega arith
+pub all-smaller : goal.all-smaller
+all-smaller c = omega arith
 
-pub loop-s-preserved : goal.loop-s-preserved
-loop-s-preserved c =
-    let l = c.loop-s in
+pub all-preserved : goal.all-preserved
+all-preserved c =
+    let l = c.all in
     (rw l.invariant.0 (fill_more l.s 0 c.args.words.now (omega arith)), omega arith, simp length-set l.invariant.2)
 
 pub shape_of-words : goal.shape_of-words
-shape_of-words c = c.loop-s.invariant.2
+shape_of-words c = c.all.invariant.2
 
 pub returns : goal.returns
 returns c =
-    let e : c.loop-s.s ≡ length c.args.words.now = omega arith in
-    c.loop-s.invariant.0 ∙ rw (e, drop-length) (append-nil _)
+    let e : c.all.s ≡ length c.args.words.now = omega arith in
+    c.all.invariant.0 ∙ rw (e, drop-length) (append-nil _)

@@ -9,11 +9,11 @@ use Rattle.rules.proofs.table.read_entries.Goals.{Else-taken-ne0}
 onward : (c : Else-taken-ne0) → Onward c.args.rule.now c.loop-at.n c.loop-at.at c.take_entry-taken.result
 onward c = rule-onward _ c.loop-at.invariant.mid c.if-at-rule.false _ c.take_entry-taken.ensures.0 c.if-taken-ne0.false
 
-pub returns-then-rule-lt1 : goal.returns-then-rule-lt1
-returns-then-rule-lt1 c = entries-kept _ _ (entries_none _ c.if-rule-lt1.true) _ (rule-empty _ c.if-rule-lt1.true)
+pub returns-then-empty : goal.returns-then-empty
+returns-then-empty c = entries-kept _ _ (entries_none _ c.if-empty.true) _ (rule-empty _ c.if-empty.true)
 
-pub returns-then-rule-gt-RULE_MOST : goal.returns-then-rule-gt-RULE_MOST
-returns-then-rule-gt-RULE_MOST c = entries-kept _ _ (entries-many _ c.if-rule-gt-RULE_MOST.true) _ (rule-long _ c.if-rule-gt-RULE_MOST.true)
+pub returns-then-too_long : goal.returns-then-too_long
+returns-then-too_long c = entries-kept _ _ (entries-many _ c.if-too_long.true) _ (rule-long _ c.if-too_long.true)
 
 pub loop-at-init : goal.loop-at-init
 loop-at-init c = entries-start _ _
@@ -35,9 +35,9 @@ loop-at-preserved c =
 pub returns-then-at-rule : goal.returns-then-at-rule
 returns-then-at-rule c =
     let m = c.loop-at.invariant in
-    entries-done _ _ m (halts-ended _ m.mid m.few c.if-rule-lt1.false c.if-rule-gt-RULE_MOST.false c.if-at-rule.true)
+    entries-done _ _ m (halts-ended _ m.mid m.few c.if-empty.false c.if-too_long.false c.if-at-rule.true)
 
 pub returns-then-taken-ne0 : goal.returns-then-taken-ne0
 returns-then-taken-ne0 c =
     let m = c.loop-at.invariant in
-    entries-done _ _ m (halts-faulty _ m.mid m.few c.if-rule-lt1.false c.if-rule-gt-RULE_MOST.false c.if-at-rule.false _ c.take_entry-taken.ensures.0 c.if-taken-ne0.true)
+    entries-done _ _ m (halts-faulty _ m.mid m.few c.if-empty.false c.if-too_long.false c.if-at-rule.false _ c.take_entry-taken.ensures.0 c.if-taken-ne0.true)

@@ -21,17 +21,17 @@ number_at-d-requires c = omega (arith, tested-long _ _ c.bad_state.ensures c.if-
 
 pub overflow_sub-d : goal.overflow_sub-d
 overflow_sub-d c =
-    let r = closes-fine _ (sym (number (goal.at.overflow_sub-d c).After-close_fault-number) ∙ c.if-number-eq0.true) in
+    let r = closes-fine _ (sym (number (goal.at.overflow_sub-d c).After-close_fault-number) ∙ c.if-fine.true) in
     omega (arith, r.1, c.number_at-d.ensures.0)
 
 pub store_closing-requires : goal.store_closing-requires
 store_closing-requires c =
-    let r = closes-fine _ (sym (number (goal.at.store_closing-requires c).After-close_fault-number) ∙ c.if-number-eq0.true) in
+    let r = closes-fine _ (sym (number (goal.at.store_closing-requires c).After-close_fault-number) ∙ c.if-fine.true) in
     (r.0, omega (arith, r.1, r.2, c.number_at-d.ensures.0))
 
-pub returns-then-number-eq0 : goal.returns-then-number-eq0
-returns-then-number-eq0 c =
-    close-taken _ _ _ _ (number (goal.at.returns-then-number-eq0 c).After-close_fault-number) c.if-number-eq0.true c.number_at-d.ensures.0 c.store_closing.ensures
+pub returns-then-fine : goal.returns-then-fine
+returns-then-fine c =
+    close-taken _ _ _ _ (number (goal.at.returns-then-fine c).After-close_fault-number) c.if-fine.true c.number_at-d.ensures.0 c.store_closing.ensures
 
-pub returns-else-number-eq0 : goal.returns-else-number-eq0
-returns-else-number-eq0 c = close-refused _ _ (number (goal.at.returns-else-number-eq0 c).After-close_fault-number) c.if-number-eq0.false
+pub returns-else-fine : goal.returns-else-fine
+returns-else-fine c = close-refused _ _ (number (goal.at.returns-else-fine c).After-close_fault-number) c.if-fine.false

@@ -28,12 +28,12 @@ number_at-root-requires c = omega (arith, tested-long _ _ c.bad_state.ensures c.
 
 pub store_opening-requires : goal.store_opening-requires
 store_opening-requires c =
-    let r = opens-fine _ _ (sym (number (goal.at.store_opening-requires c).After-open_fault-fault) ∙ c.if-fault-eq0.true) in
+    let r = opens-fine _ _ (sym (number (goal.at.store_opening-requires c).After-open_fault-fault) ∙ c.if-fine.true) in
     (r.0, omega (arith, r.1, c.number_at-d.ensures.0), omega (arith, r.2, c.number_at-elements.ensures.0))
 
-pub returns-then-fault-eq0 : goal.returns-then-fault-eq0
-returns-then-fault-eq0 c =
-    open-taken _ _ _ _ _ _ _ (number (goal.at.returns-then-fault-eq0 c).After-open_fault-fault) c.if-fault-eq0.true c.number_at-d.ensures.0 c.number_at-elements.ensures.0 c.store_opening.ensures
+pub returns-then-fine : goal.returns-then-fine
+returns-then-fine c =
+    open-taken _ _ _ _ _ _ _ (number (goal.at.returns-then-fine c).After-open_fault-fault) c.if-fine.true c.number_at-d.ensures.0 c.number_at-elements.ensures.0 c.store_opening.ensures
 
-pub returns-else-fault-eq0 : goal.returns-else-fault-eq0
-returns-else-fault-eq0 c = open-refused _ _ _ _ (number (goal.at.returns-else-fault-eq0 c).After-open_fault-fault) c.if-fault-eq0.false
+pub returns-else-fine : goal.returns-else-fine
+returns-else-fine c = open-refused _ _ _ _ (number (goal.at.returns-else-fine c).After-open_fault-fault) c.if-fine.false

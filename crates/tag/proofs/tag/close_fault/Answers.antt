@@ -3,10 +3,10 @@ use borrow.Author.Tests.{eq-eqb, ne_eqb}
 use Rattle.tag.specs.Tags.{tag_fault}
 use Rattle.tag.proofs.tag.close_fault.Goals as goal
 
-pub returns-then-depth-eq0 : goal.returns-then-depth-eq0
+pub returns-then-nothing_open : goal.returns-then-nothing_open
 unfolding tag_fault
-returns-then-depth-eq0 c = simp (eq-eqb _ _ c.if-depth-eq0.true)
+returns-then-nothing_open c = simp (eq-eqb _ _ c.if-nothing_open.true)
 
-pub returns-else-depth-eq0 : goal.returns-else-depth-eq0
+pub returns-else-nothing_open : goal.returns-else-nothing_open
 unfolding tag_fault
-returns-else-depth-eq0 c = simp (ne_eqb _ _ c.if-depth-eq0.false)
+returns-else-nothing_open c = simp (ne_eqb _ _ c.if-nothing_open.false)

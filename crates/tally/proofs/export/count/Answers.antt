@@ -11,21 +11,21 @@ returns-then-is_refused c = tallied-refused _ _ (sym c.is_refused.ensures ∙ c.
 pub overflow_add-result : goal.overflow_add-result
 overflow_add-result c = omega (arith, refused-not _ (sym c.is_refused.ensures ∙ c.if-is_refused.false))
 
-pub overflow_add-result-then-verdict : goal.overflow_add-result-then-verdict
-overflow_add-result-then-verdict c = omega (arith, refused-not _ (sym c.is_refused.ensures ∙ c.if-is_refused.false))
+pub overflow_add-result-then-selects : goal.overflow_add-result-then-selects
+overflow_add-result-then-selects c = omega (arith, refused-not _ (sym c.is_refused.ensures ∙ c.if-is_refused.false))
 
-pub overflow_add-result-else-verdict : goal.overflow_add-result-else-verdict
-overflow_add-result-else-verdict c = omega (arith, refused-not _ (sym c.is_refused.ensures ∙ c.if-is_refused.false))
+pub overflow_add-result-else-selects : goal.overflow_add-result-else-selects
+overflow_add-result-else-selects c = omega (arith, refused-not _ (sym c.is_refused.ensures ∙ c.if-is_refused.false))
 
-pub overflow_add-result-else-verdict-2 : goal.overflow_add-result-else-verdict-2
-overflow_add-result-else-verdict-2 c = omega (arith, refused-not _ (sym c.is_refused.ensures ∙ c.if-is_refused.false))
+pub overflow_add-result-else-selects-2 : goal.overflow_add-result-else-selects-2
+overflow_add-result-else-selects-2 c = omega (arith, refused-not _ (sym c.is_refused.ensures ∙ c.if-is_refused.false))
 
-pub returns-then-verdict : goal.returns-then-verdict
+pub returns-then-selects : goal.returns-then-selects
 unfolding risen
-returns-then-verdict c =
-    tallied-taken _ (sym c.is_refused.ensures ∙ c.if-is_refused.false) c.if-verdict.true
+returns-then-selects c =
+    tallied-taken _ (sym c.is_refused.ensures ∙ c.if-is_refused.false) c.if-selects.true
 
-pub returns-else-verdict : goal.returns-else-verdict
+pub returns-else-selects : goal.returns-else-selects
 unfolding risen
-returns-else-verdict c =
-    tallied-taken _ (sym c.is_refused.ensures ∙ c.if-is_refused.false) c.if-verdict.false
+returns-else-selects c =
+    tallied-taken _ (sym c.is_refused.ensures ∙ c.if-is_refused.false) c.if-selects.false

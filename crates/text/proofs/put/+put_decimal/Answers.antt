@@ -16,12 +16,12 @@ bounds-out-at t c = omega (arith, decimal-some c.args.x)
 pub overflow_add-result : goal.overflow_add-result
 overflow_add-result t c = omega (arith, decimal-some c.args.x)
 
-pub returns-then-x-lt10 : goal.returns-then-x-lt10
-returns-then-x-lt10 t c = rw (decimal-one c.args.x c.if-x-lt10.true) (put_one _ _ _)
+pub returns-then-one_digit : goal.returns-then-one_digit
+returns-then-one_digit t c = rw (decimal-one c.args.x c.if-one_digit.true) (put_one _ _ _)
 
 pub put_decimal-last-requires : goal.put_decimal-last-requires
 put_decimal-last-requires t c =
-    omega (arith, decimal-longer c.args.x c.if-x-lt10.false)
+    omega (arith, decimal-longer c.args.x c.if-one_digit.false)
 
 pub overflow_add-out-2 : goal.overflow_add-out-2
 overflow_add-out-2 t c = omega arith
@@ -31,12 +31,12 @@ overflow_cast-out-2 t c = omega arith
 
 pub bounds-out-last : goal.bounds-out-last
 bounds-out-last t c =
-    omega (arith, c.put_decimal-last.ensures.next_is, decimal-longer c.args.x c.if-x-lt10.false)
+    omega (arith, c.put_decimal-last.ensures.next_is, decimal-longer c.args.x c.if-one_digit.false)
 
 pub overflow_add-result-2 : goal.overflow_add-result-2
 overflow_add-result-2 t c =
-    omega (arith, c.put_decimal-last.ensures.next_is, decimal-longer c.args.x c.if-x-lt10.false)
+    omega (arith, c.put_decimal-last.ensures.next_is, decimal-longer c.args.x c.if-one_digit.false)
 
 pub returns : goal.returns
 returns t c =
-    rw (decimal-more c.args.x c.if-x-lt10.false) (put_then c.put_decimal-last.ensures (put_one _ _ _))
+    rw (decimal-more c.args.x c.if-one_digit.false) (put_then c.put_decimal-last.ensures (put_one _ _ _))

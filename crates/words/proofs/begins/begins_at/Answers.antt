@@ -10,14 +10,14 @@ returns-then-b-eq40 c = begin-either c.args.s.now c.args.at c.byte_at-b.result c
 pub returns-then-b-eq60 : goal.returns-then-b-eq60
 returns-then-b-eq60 c = begin-path c.args.s.now c.args.at c.byte_at-b.result c.byte_at-b.ensures _ c.if-b-eq60.true
 
-pub returns-then-not-after : goal.returns-then-not-after
-returns-then-not-after c = c.letters_at.ensures ∙ begin-close c.args.s.now c.args.at c.byte_at-b.result c.byte_at-b.ensures c.args.after c.if-not-after.true c.if-b-eq40.false c.if-b-eq60.false
+pub returns-then-unspaced : goal.returns-then-unspaced
+returns-then-unspaced c = c.letters_at.ensures ∙ begin-close c.args.s.now c.args.at c.byte_at-b.result c.byte_at-b.ensures c.args.after c.if-unspaced.true c.if-b-eq40.false c.if-b-eq60.false
 
 pub overflow_add-at : goal.overflow_add-at
 overflow_add-at c = omega (arith, c.well_formed, (front c.args.s.now c.args.at 32 (sym c.byte_at-b.ensures ∙ c.if-b-eq32.true) (omega arith)).0)
 
 pub returns-then-b-eq32 : goal.returns-then-b-eq32
-returns-then-b-eq32 c = c.letters_at-then-b-eq32.ensures ∙ begin-spaced c.args.s.now c.args.at c.byte_at-b.result c.byte_at-b.ensures c.args.after c.if-not-after.false c.if-b-eq32.true
+returns-then-b-eq32 c = c.letters_at-then-b-eq32.ensures ∙ begin-spaced c.args.s.now c.args.at c.byte_at-b.result c.byte_at-b.ensures c.args.after c.if-unspaced.false c.if-b-eq32.true
 
 pub returns : goal.returns
-returns c = begin-other c.args.s.now c.args.at c.byte_at-b.result c.byte_at-b.ensures c.args.after c.if-not-after.false c.if-b-eq40.false c.if-b-eq60.false c.if-b-eq32.false
+returns c = begin-other c.args.s.now c.args.at c.byte_at-b.result c.byte_at-b.ensures c.args.after c.if-unspaced.false c.if-b-eq40.false c.if-b-eq60.false c.if-b-eq32.false
