@@ -157,7 +157,7 @@ struct pz_report_reply {
  * Gives: number 0, place 0 and the number of entries; else the number, its place, and entries 0.
  * Order: 1 first. Then the records in byte order: the first faulty one decides the number and the
  * place. At one record 4 comes before 2, and 2 before 3. Where no record is faulty, 0.
- * Promise: ruleReply (crates/records/specs/Reply.antt). */
+ * Promise: rule_reply (crates/records/specs/Reply.antt). */
 struct pz_rule_reply pz_read_rule(const uint8_t *rule, size_t rule_len);
 
 /* Reads a report. Lent for this call: report, report_len bytes, only read; nothing is kept.
@@ -165,7 +165,7 @@ struct pz_rule_reply pz_read_rule(const uint8_t *rule, size_t rule_len);
  * Order: 5 first. Then the records in byte order: the first faulty one decides the number and the
  * place. At one record 6 comes before 7, and 7 before 8; a record after the root's closing is faulty
  * by these rows too. Where no record is faulty and an element is open at the end, 7; else 0.
- * Promise: reportReply (crates/records/specs/Reply.antt). */
+ * Promise: report_reply (crates/records/specs/Reply.antt). */
 struct pz_report_reply pz_read_report(const uint8_t *report, size_t report_len);
 
 /* A rule typed as text. It is one test; a test holds at an element or does not.
