@@ -1,7 +1,7 @@
 #!/usr/bin/env python3
 """Brings this repository's own definitions, fields and laws to the spelling of today's Rattle: words in snake case.
 
-Run once, at the top, after /opt/rattle/port/port.py. Functions of src/, exported C names, strings, inputs and outputs keep their names.
+Run once, at the top, after port.py of the kit. Functions of src/, exported C names, strings, inputs and outputs keep their names.
 The second table is what port.py respelt itself: it is applied to the must-fail edits and the pages, which port.py leaves alone.
 """
 import glob
