@@ -8,33 +8,26 @@
 
 ghost use Rattle.std.specs.Prelude.{◌≤◌, IfOk, length};
 
+use input::read_full;
 use std::io;
 use std::io::Read;
 
-// Reads until the buffer is full or the input ends, and returns how many bytes were read. Where
-// nothing can be read at all, as with no standard input, the input is empty. A read that fails later
-// is an error: the input did not end there, so nothing is printed of that part.
-fn read_full(from: &mut impl Read, buf: &mut [u8]) -> io::Result<usize>
+// Reads the input. Where nothing can be read at all, as with no standard input, it is empty. A read
+// that fails later is an error: the input did not end there, so nothing is printed of that part.
+fn read_input(from: &mut impl Read, buf: &mut [u8]) -> io::Result<usize>
     ensures { IfOk result (λ n. n ≤ length buf.new) }
 {
-    let mut done = 0;
-    while done < buf.len() {
-        let n = match from.read(&mut buf[done..]) {
-            Ok(n) => n,
-            Err(e) if done > 0 => return Err(e),
-            Err(_) => 0,
-        };
-        if n == 0 {
-            break;
-        }
-        done += n;
+    let first = from.read(buf).unwrap_or(0);
+    if first == 0 {
+        return Ok(0);
     }
-    Ok(done)
+    let more = read_full(from, &mut buf[first..])?;
+    Ok(first + more)
 }
 
 fn main(rt: HostRuntime) -> io::Result<()> {
     let mut input = [0u8; 65536];
-    let n = read_full(&mut rt.stdin(), &mut input)?;
+    let n = read_input(&mut rt.stdin(), &mut input)?;
     let mut out = [0u8; text::put::TEXT_BYTES];
     let m = judge::judge::put_printout(&input[..n], &mut out);
     let written = rt.write_all(&out[..m]);

@@ -1,0 +1,2 @@
+-- What a full read leaves.
+pub mod Full
