@@ -6,14 +6,12 @@ use mathlib.Core.Path.{◌≡◌, refl, sym, ap, subst, ◌∙◌}
 use mathlib.Core.Bool.{Bool, true, false, cond, ◌||◌, ◌&&◌}
 use mathlib.Core.List.{List, [], ◌∷◌, ◌++◌, append-nil}
 use lib.ListN.{length, set}
-use Rattle.terms.specs.Answer.{Accepts}
+use Rattle.terms.specs.Answer.{Accepts, Answer, Refused}
 use Rattle.terms.specs.Frame.{start_of, kind_at}
 use Rattle.tag.specs.Tags.{labels, levels, levels_from, Tag, opens, closes, depth, opened_count, tag_fault, end_of}
 use Rattle.tag.specs.Record.{tag_at, record_fault, tag_taken}
 use Rattle.tag.specs.declared.tag.TakenTag.{TakenTag}
 use Rattle.reports.specs.Report.{report_answer, tags_of, tags_before, report_fault, report_stops, report_answer_at, last_record}
-use Rattle.terms.specs.declared.answer.Answer.{Answer}
-use Rattle.terms.specs.declared.answer.Answer.TheVariants.{Refused}
 use borrow.Author.Tests.{lt-ltb, le-ltb}
 use lib.Dec.{ltb, eqb}
 use Rattle.numbers.specs.Bytes.{number_at}

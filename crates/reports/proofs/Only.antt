@@ -5,7 +5,7 @@ use Prim.Native.Nat.{ℕ}
 use mathlib.Core.Path.{◌≡◌}
 use mathlib.Core.List.{List}
 use Rattle.reports.specs.Report.{report_answer}
-use Rattle.terms.specs.declared.answer.Answer.{Answer}
+use Rattle.terms.specs.Answer.{Answer}
 use Rattle.reports.specs.Elements.{ElementsTaken}
 
 -- What the report reader answers.

@@ -7,13 +7,11 @@ use mathlib.Core.Path.{◌≡◌, refl, sym, ap, ◌∙◌}
 use mathlib.Core.Bool.{Bool, true, false, cond, ◌||◌}
 use mathlib.Core.List.{List, [], ◌∷◌, ◌++◌, append_assoc}
 use lib.ListN.{length, set, length-append}
-use Rattle.terms.specs.Answer.{count_of}
+use Rattle.terms.specs.Answer.{count_of, Answer, Accepted, Refused}
 use Rattle.numbers.specs.First.{first}
 use Rattle.terms.specs.Frame.{start_of}
 use Rattle.entry.specs.Entry.{entry_at, rule_fault, taken_at}
 use Rattle.rules.specs.Rule.{rule_answer, rule_faults, rule_stops, rule_answer_at}
-use Rattle.terms.specs.declared.answer.Answer.{Answer}
-use Rattle.terms.specs.declared.answer.Answer.TheVariants.{Accepted, Refused}
 use Rattle.entry.specs.declared.entry.Entry.{Entry}
 use borrow.Author.Tests.{lt-ltb, le-ltb}
 use lib.Dec.{ltb, eqb}

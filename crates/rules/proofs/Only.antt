@@ -5,7 +5,7 @@ use Prim.Native.Nat.{ℕ}
 use mathlib.Core.Path.{◌≡◌}
 use mathlib.Core.List.{List}
 use Rattle.rules.specs.Rule.{rule_answer}
-use Rattle.terms.specs.declared.answer.Answer.{Answer}
+use Rattle.terms.specs.Answer.{Answer}
 use Rattle.rules.specs.Entries.{EntriesTaken}
 
 -- What the rule reader answers.

@@ -11,7 +11,7 @@ use Rattle.numbers.specs.First.{first}
 use Rattle.terms.specs.Frame.{next_of}
 use Rattle.entry.specs.Entry.{entry_at, taken_at, rule_fault}
 use Rattle.rules.specs.Rule.{rule_faults, rule_stops, rule_answer_at, rule_answer}
-use Rattle.terms.specs.declared.answer.Answer.TheVariants.{Accepted, Refused}
+use Rattle.terms.specs.Answer.{Accepted, Refused}
 use Rattle.entry.specs.declared.entry.Taken.{Taken}
 use Rattle.terms.proofs.Reading.{Mid, mid-turn, mid-ended, mid-faulty}
 use Rattle.entry.proofs.TakenLaws.{rule-sound, taken-fault, taken_fine}

@@ -2,12 +2,11 @@
 -- What an accepted rule holds, as the list of entries that the layers above work on. Document 01, "Records".
 -- Laws: proofs/EntryLaws.antt, and the crate grammar. Assumes nothing.
 use Rattle.std.specs.Prelude.{ℕ, ◌≡◌, cond, List, [], ◌∷◌}
-use Rattle.terms.specs.Answer.{count_of}
+use Rattle.terms.specs.Answer.{count_of, Answer}
 use Rattle.numbers.specs.First.{first}
 use Rattle.terms.specs.Frame.{start_of}
 use Rattle.entry.specs.Entry.{entry_at}
 use Rattle.rules.specs.Rule.{rule_stops, rule_answer}
-use Rattle.terms.specs.declared.answer.Answer.{Answer}
 use Rattle.entry.specs.declared.entry.Entry.{Entry}
 use Rattle.terms.specs.Limits.{rule_most, entries_most, missized}
 use Rattle.numbers.specs.Lists.{listed, over}

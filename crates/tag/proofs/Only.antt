@@ -7,7 +7,7 @@ use mathlib.Core.List.{List}
 use Rattle.tag.specs.Tags.{opens, closes, tag_fault, end_of}
 use Rattle.tag.specs.Record.{tag_taken}
 use Rattle.tag.specs.declared.tag.TakenTag.{TakenTag}
-use Rattle.terms.specs.declared.answer.Answer.{Answer}
+use Rattle.terms.specs.Answer.{Answer}
 
 -- The number that an opening gets.
 pub open-fault-only : (depth elements : ℕ) (root_closed : Bool) (label : ℕ) {r r' : ℕ}
