@@ -64,3 +64,10 @@ answered-only (Err f) (Err g) e =
     let same : f.fault ≡ g.fault = fault-only f.fault g.fault (ap number_of e) in
     let there : f.place ≡ g.place = ap place_of e in
     ap (λ (k : Fault). Err (refusal k f.place)) same ∙ ap (λ (n : ℕ). Err (refusal g.fault n)) there
+
+-- So are two of what has a fault or none, and nothing else.
+pub fault-number-only : (r r' : Result Unit Fault) → fault_number r ≡ fault_number r' → r ≡ r'
+fault-number-only (Ok x) (Ok y) e = refl
+fault-number-only (Ok x) (Err f) e = absurd (fault-number-some f (sym e))
+fault-number-only (Err f) (Ok x) e = absurd (fault-number-some f e)
+fault-number-only (Err f) (Err g) e = ap (λ (k : Fault). Err k) (fault-only f g e)
