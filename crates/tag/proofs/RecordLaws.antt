@@ -27,6 +27,23 @@ module _ (s : List ℕ) (at : ℕ) where
   unfolding tag_at
   tag-closes e = rw e
 
+  -- And the kind by the tag.
+  pub opens-kind : (l : ℕ) → opens l ≡ tag_at s at → eqb (kind_at s at) 1 ≡ true
+  unfolding tag_at
+  opens-kind l = go (eqb (kind_at s at) 1)
+    where
+      go : (b : Bool) → opens l ≡ cond b (opens (number_at s (at + 4))) closes → b ≡ true
+      go true e = refl
+      go false e = cc
+
+  pub closes-kind : closes ≡ tag_at s at → eqb (kind_at s at) 1 ≡ false
+  unfolding tag_at
+  closes-kind = go (eqb (kind_at s at) 1)
+    where
+      go : (b : Bool) → closes ≡ cond b (opens (number_at s (at + 4))) closes → b ≡ false
+      go true e = cc
+      go false e = refl
+
   -- The length of each kind's record.
   pub length-opens : kind_at s at ≡ 1 → report_length (kind_at s at) ≡ 4
   unfolding report_length
