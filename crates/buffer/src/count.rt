@@ -8,11 +8,5 @@ use steps::word::bit_in;
 pub fn count_with_bit(words: &[u64], i: usize) -> usize
     ensures { result ≡ have_bit (in_word i) words.now }
 {
-    let mut count: usize = 0;
-    let mut s: usize = 0;
-    while s < words.len() {
-        count += bit_in(words[s], i) as usize;
-        s += 1;
-    }
-    count
+    words.iter().filter(|w| bit_in(**w, i)).count()
 }
