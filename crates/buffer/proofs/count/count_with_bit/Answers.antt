@@ -1,16 +1,29 @@
--- `count_with_bit`: the words that the filter passes are those that have the bit. Assumes nothing.
-use mathlib.Core.Path.{◌∙◌}
-use Rattle.std.proofs.Common.{rules, tests}
-use Rattle.std.proofs.lemmas.Iterator.{YieldsList-from_slice}
-use Rattle.std.proofs.lemmas.Iterator.Consumers.{count_from_yields_List, YieldsList-from_filter}
-use Rattle.numbers.specs.Bits.{in_word, bit_at}
-use Rattle.buffer.proofs.Counted.{filtered-count}
+-- `count_with_bit`: the words passed are counted. Assumes nothing.
+use native.Mathlib.Omega.{arith}
+use mathlib.Core.Path.{◌≡◌, refl, ◌∙◌}
+use lib.ListN.{length}
+use lib.Seq.{take-length}
+use Rattle.numbers.specs.Bits.{in_word, have_bit}
+use Rattle.numbers.proofs.BitLaws.{bit-small, have_bit-first, have_bit-next}
 use Rattle.buffer.proofs.count.count_with_bit.Goals as goal
+
+pub loop-w-init : goal.loop-w-init
+unfolding have_bit
+loop-w-init c = refl
+
+pub overflow_add-count : goal.overflow_add-count
+overflow_add-count c =
+    let p = c.args in
+    let l = c.loop-w in
+    omega (arith, have_bit-first (in_word p.i) l.w-index p.words.now, bit-small c.bit_in.result)
+
+pub loop-w-preserved : goal.loop-w-preserved
+loop-w-preserved c =
+    let p = c.args in
+    let l = c.loop-w in
+    rw c.bit_in.ensures (have_bit-next (in_word p.i) l.w-index p.words.now (omega arith) l.invariant)
 
 pub returns : goal.returns
 returns c =
-    let p = c.args in
-    let a = in_word p.i in
-    count_from_yields_List c.filter.result _ c.count.ensures.ran
-    (YieldsList-from_filter _ (λ w. bit_at w a) (YieldsList-from_slice p.words.now cc) c.filter.ensures.closure (λ x r q k. search (rules, tests)))
-    ∙ filtered-count a p.words.now
+    let e : c.loop-w.w-index ≡ length c.args.words.now = omega arith in
+    c.loop-w.invariant ∙ rw (e, take-length)
