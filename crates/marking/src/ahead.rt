@@ -46,8 +46,8 @@ pub(crate) fn gather_pass(a: usize, i: usize, f: &[u16], marks: &mut [u64])
     requires not_past { (s : ℕ) → s < length f.now → get_or f.now s 0 ≤ s }
     ensures { Passed (length f.now) i (some_of forward (length f.now) (leads f.now) (bits_of marks.old a)) marks.old marks.new }
 {
-    for s in 0..f.len() {
-        let p = wide(f[s]);
+    for (s, p) in f.iter().enumerate() {
+        let p = wide(*p);
         let given = bit_where(marks[s], a, p < s);
         marks[p] = put_low_bit(marks[p], i, given);
     }
