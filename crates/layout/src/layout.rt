@@ -22,7 +22,8 @@ fn link_first(n: usize, levels: &[u16], ups: &mut [u16], lefts: &mut [u16])
 
 // Reads a report, and puts its elements' labels and levels into the lent columns, in order of opening;
 // where it is accepted and every column has room for its elements, also their parents and previous
-// siblings.
+// siblings. Four slices, and no struct that holds them: lent as `&mut`, it can't lend two of its columns to
+// one call, which the check does not cover.
 pub fn lay_out(
     report: &[u8],
     labels: &mut [u16],
