@@ -5,6 +5,7 @@ pub mod Decides
 pub mod WhenRule
 pub mod RuleRecord
 pub mod Entries
+pub mod Table
 pub mod Rules
 pub mod TagRows
 pub mod Fits
