@@ -27,7 +27,8 @@ use Rattle.meaning.proofs.Words.{count_below, selected-words}
 use Rattle.marking.specs.Evaluation.{short_of_room, outcome, evaluation, meant_words}
 use Rattle.marking.proofs.AnswerLaws.{both-taken}
 use Rattle.text.specs.Text.{element_line, accepted_text}
-use Rattle.judge.specs.Input.{unsplit, rule_end, rule_in, report_in}
+use Rattle.std.specs.Prelude.{None}
+use Rattle.judge.specs.Input.{rule_end, rule_in, report_in}
 use Rattle.judge.specs.Output.{room, printed, accepted_printout, text_answer, printout_of_both, printout_at, printout_of}
 use Rattle.judge.proofs.SplitLaws.{split-short, split-long}
 use Rattle.judge.proofs.PrintoutLaws.{text_same, text-taken, text-refused-iff, text-counted, text-few}
@@ -169,14 +170,14 @@ pub printout : Printout
 unfolding printout_of_both printout_at
 printout input bytes =
     elim (dec_lt (length input) 2) [
-      | yes l ↦ short (ap (printout_at input) (sym (split-short input l))) (λ rule report p. omega (arith, (parts-fit p).0))
+      | yes l ↦ short (ap (printout_at input) (split-short input l)) (λ rule report p. omega (arith, (parts-fit p).0))
       | no n ↦ elim (dec_lt (length input) (rule_end input)) [
-        | yes l ↦ short (ap (printout_at input) (sym (split-long input (rule_end input) refl (omega arith) l))) (λ rule report p. omega (arith, (parts-fit p).1))
+        | yes l ↦ short (ap (printout_at input) (split-long input (omega arith) l)) (λ rule report p. omega (arith, (parts-fit p).1))
         | no m ↦ whole (omega arith) (omega arith)
       ]
     ]
   where
-    short : printout_of input ≡ printout_at input unsplit → ((rule report : List ℕ) → Parts input rule report → ⊥) → Printed input (printout_of input)
+    short : printout_of input ≡ printout_at input None → ((rule report : List ℕ) → Parts input rule report → ⊥) → Printed input (printout_of input)
     short e h = rw e (no-rule h)
 
     whole : 2 ≤ length input → rule_end input ≤ length input → Printed input (printout_of input)

@@ -35,7 +35,7 @@ use Rattle.marking.specs.Evaluation.{short_of_room, meant_words, outcome}
 use Rattle.text.specs.Decimal.{digits, decimal}
 use Rattle.text.specs.Text.{ascii, field, phrase, header_line, element_line, closing_line, element_lines, accepted_lines, accepted_text}
 use Rattle.judge.specs.Input.{rule_end, split_of, rule_in, report_in}
-use Rattle.judge.specs.Output.{accepted_printout, printout_at, printout_of}
+use Rattle.judge.specs.Output.{accepted_printout, printout_of_both, printout_at, printout_of}
 use Rattle.demands.specs.Samples.{rule_a, rule_b, rule_c, rule_d, rule_e, rule_f, rule_g, rule_h, rule_i, rule_j, rule_k, rule_samples}
 use Rattle.demands.specs.Samples.{report_r, one_report, tree_r, Spelt, SamplesRight}
 use Rattle.demands.proofs.Readers.{is-entries, taken_is, accepted-is}
@@ -113,7 +113,7 @@ report_one = report-of one_report (node 1 empty) refl refl refl
 -- The sample's text, from the sample's bytes.
 sample-printed : printout_of (32 ∷ 0 ∷ (rule_a ++ report_r))
     ≡ ascii "element label level selected\n0 1 0 0\n1 10 1 0\n2 20 2 1\n3 30 2 0\n4 10 1 0\n5 20 2 0\nselected 1 of 6\n"
-unfolding rule_end split_of rule_in report_in accepted_printout printout_at short_of_room meant_words outcome
+unfolding rule_end split_of rule_in report_in accepted_printout printout_of_both printout_at short_of_room meant_words outcome
     rule_answer rule_answer_at rule_stops rule_fault frame_of first_from start_of next_of word_at row_of numbers_of local_numbers leads_back misdirected
     entry_at entry_of entries_of listed
     report_answer report_answer_at report_stops report_fault record_fault tag_fault end_of report_length tag_at depth_from labels levels_from labels_of levels_of

@@ -57,14 +57,14 @@ module _ (s : List ℕ) (h : 2 ≤ length s) where
   -- Where the rule ends within the input, the printout is that of rule and report.
   pub printout-split : rule_end s ≤ length s → printout_of s ≡ printout_of_both (rule_in s (rule_end s)) (report_in s (rule_end s))
   unfolding printout_at printout_of_both
-  printout-split l = ap (printout_at s) (sym (split-fits s (rule_end s) refl h l))
+  printout-split l = ap (printout_at s) (split-fits s h l)
 
   -- A rule of more than 512 bytes is told as 1, whether the input has all of it or not.
   pub printout-long-rule : 514 < rule_end s → printout_of s ≡ refused_line 1 0
   unfolding printout_at rule_in
   printout-long-rule m =
       elim (dec_lt (length s) (rule_end s)) [
-        | yes l ↦ ap (printout_at s) (sym (split-long s (rule_end s) refl h l))
+        | yes l ↦ ap (printout_at s) (split-long s h l)
         | no n ↦ printout-split (omega (arith, n))
             ∙ rule-long-told (rule_in s (rule_end s)) (report_in s (rule_end s))
             (rw (length-take-le (rule_end s - 2) (drop 2 s) (rw (length-drop 2 s) (omega (arith, n)))) (omega arith))

@@ -2,14 +2,13 @@
 -- What the program prints for an input. Document 01, "The program".
 -- Shuts out: an element without its line; a verdict that is not the meaning's; a refusal with another number or place.
 -- Assumes nothing.
-use Rattle.std.specs.Prelude.{ℕ, ◌≡◌, cond, List, length}
+use Rattle.std.specs.Prelude.{ℕ, ◌≡◌, List, Option, None, Some, length}
 use Rattle.meaning.specs.Marks.{verdict, selected}
 use Rattle.terms.specs.Answer.{number_of, place_of, count_of, by_answer, where_accepted, in_order, Answer, Accepted, Refused}
 use Rattle.marking.specs.Evaluation.{outcome, meant_words}
 use Rattle.numbers.specs.Lists.{over}
 use Rattle.text.specs.Text.{refused_line, accepted_text}
 use Rattle.judge.specs.Input.{split_of, rule_in, report_in}
-use Rattle.judge.specs.declared.split.Halves.{Halves}
 use Rattle.judge.specs.declared.judge.Judgement.{Judgement}
 use Rattle.terms.specs.Limits.{elements_most}
 use Rattle.rules.specs.Entries.{entries_of}
@@ -47,15 +46,10 @@ pub record TakenPut (rule report out : List ℕ) (r : Judgement) (after : List �
 unfoldable pub printout_of_both : (rule report : List ℕ) → List ℕ
 printout_of_both rule report = printed (outcome rule report room) (accepted_printout rule report)
 
--- Refusal 1 comes before all others where the input does not have its rule.
-abbrev pub split_answer : Halves → Answer
-split_answer w = cond w.fits (Accepted 0) (Refused 1 0)
-
--- The text of an input, by where its rule ends.
-unfoldable pub printout_at : List ℕ → Halves → List ℕ
-printout_at s w =
-    printed (in_order (split_answer w) (outcome (rule_in s w.end) (report_in s w.end) room))
-    (accepted_printout (rule_in s w.end) (report_in s w.end))
+-- The text of an input, by where its rule ends: refusal 1 comes before all others where the input does not have its rule.
+unfoldable pub printout_at : List ℕ → Option ℕ → List ℕ
+printout_at s None = refused_line 1 0
+printout_at s (Some end) = printout_of_both (rule_in s end) (report_in s end)
 
 abbrev pub printout_of : List ℕ → List ℕ
 printout_of s = printout_at s (split_of s)

@@ -1,7 +1,5 @@
 // The printout of an input, as bytes in a buffer that always has room for it.
-ghost use Rattle.std.specs.Prelude.{◌≤◌, length};
 ghost use Rattle.text.specs.Rendered.{Rendered};
-ghost use Rattle.judge.specs.Input.{rule_in, report_in};
 ghost use Rattle.judge.specs.Output.{TakenPut, printout_of_both, printout_of};
 
 use crate::split::split;
@@ -74,22 +72,12 @@ fn put_halves(rule: &[u8], report: &[u8], out: &mut [u8; TEXT_BYTES]) -> usize
     }
 }
 
-// Puts the printout of an input, the rule's end being known.
-fn put_split(input: &[u8], end: usize, out: &mut [u8; TEXT_BYTES]) -> usize
-    requires { (2 ≤ end) × (end ≤ length input.now) }
-    ensures { Rendered (printout_of_both (rule_in input.now end) (report_in input.now end)) out.old result out.new }
-{
-    put_halves(&input[2..end], &input[end..], out)
-}
-
 // Puts the printout of an input.
 pub fn put_printout(input: &[u8], out: &mut [u8; TEXT_BYTES]) -> usize
     ensures { Rendered (printout_of input.now) out.old result out.new }
 {
-    let s = split(input);
-    if s.fits {
-        put_split(input, s.end, out)
-    } else {
-        put_refused(out, 1, 0)
+    match split(input) {
+        Some((rule, report)) => put_halves(rule, report, out),
+        None => put_refused(out, 1, 0),
     }
 }

@@ -32,11 +32,7 @@ fn copy_front(from: &[u8], n: usize, to: &mut [u8])
     requires { (n ≤ length from.now) × (n ≤ length to.old) }
     ensures { to.new ≡ over (take n from.now) to.old }
 {
-    let mut i: usize = 0;
-    while i < n {
-        to[i] = from[i];
-        i += 1;
-    }
+    to[..n].copy_from_slice(&from[..n]);
 }
 
 // Puts the text of a rule and a report at the front of the lent buffer. The whole text is known, and

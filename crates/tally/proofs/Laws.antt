@@ -3,14 +3,16 @@
 -- Assumes nothing.
 use Prim.Native.Nat.{ℕ, ◌+◌}
 use native.Mathlib.Omega.{arith}
-use mathlib.Core.Path.{◌≡◌, refl, sym, ap, ◌∙◌}
+use mathlib.Core.Path.{◌≡◌, refl, sym, ◌∙◌}
 use mathlib.Core.Bool.{Bool, true, false, cond, not, ◌||◌}
 use mathlib.Core.Logic.{◌⊎◌, inl, inr, ⊎_elim}
-use borrow.Author.Tests.{eqb-true, eqb-false}
+use borrow.Author.Tests.{eqb-true, eqb-false, eq-eqb, ne_eqb}
 use lib.Dec.{eqb}
-use Rattle.tally.specs.Tally.{Full, Balanced, tally_refused, risen, Tallied}
+use Rattle.tally.specs.Tally.{Full, Balanced, tally_refused, risen, counted, Tallied}
 use Rattle.tally.specs.declared.export.Tally.{Tally}
-use Rattle.tally.specs.declared.export.Counted.{Counted}
+use Rattle.tally.specs.declared.export.NotCounted.{NotCounted}
+use Rattle.tally.specs.declared.export.NotCounted.TheVariants.{AtLimit, OutOfBalance}
+use Rattle.std.specs.Prelude.{Result, Ok, Err}
 
 clash : {A : Type 0} → true ≡ false → A
 clash e = absurd (let k : ◌≡◌ {A = ℕ} 0 1 = cc in omega arith)
@@ -41,13 +43,37 @@ refused-is t = go (eqb t.seen 4294967295) (eqb t.seen (t.selected + t.passed_ove
 
 -- ---- what counting answers
 
--- A refused tally is answered 12 and stays as it was.
-pub tallied-refused : (t : Tally) (verdict : Bool) → tally_refused t ≡ true → Tallied t verdict 12 t
-tallied-refused t verdict e = record { number_is = rw e; tally_is = rw e }
+-- What counting comes to, by what is the matter with the tally.
+pub counted-full : (t : Tally) (verdict : Bool) → Full t → counted t verdict ≡ Err AtLimit
+unfolding counted
+counted-full t verdict e = rw (eq-eqb _ _ e)
 
--- Any other tally is answered 0 and rises by the verdict.
-pub tallied-taken : (t : Tally) {verdict b : Bool} → tally_refused t ≡ false → verdict ≡ b → Tallied t verdict 0 (risen t b)
-tallied-taken t e v = record { number_is = rw e; tally_is = rw (e, v) }
+pub counted-unbalanced : (t : Tally) (verdict : Bool) → (Full t → ⊥) → (Balanced t → ⊥) → counted t verdict ≡ Err OutOfBalance
+unfolding counted
+counted-unbalanced t verdict f b = rw (ne_eqb _ _ f, ne_eqb _ _ b)
+
+pub counted-taken : (t : Tally) (verdict : Bool) → (Full t → ⊥) → Balanced t → counted t verdict ≡ Ok (risen t verdict)
+unfolding counted
+counted-taken t verdict f b = rw (ne_eqb _ _ f, eq-eqb _ _ b)
+
+-- The number and the tally that are left by it: a tally in which nothing is counted is answered 12 and stays as it was.
+abbrev pub number_of : Result Tally NotCounted → ℕ
+number_of (Ok more) = 0
+number_of (Err why) = 12
+
+abbrev pub left_by : Tally → Result Tally NotCounted → Tally
+left_by t (Ok more) = more
+left_by t (Err why) = t
+
+pub counted-tallied : (t : Tally) (verdict : Bool) (r : Result Tally NotCounted) → r ≡ counted t verdict → Tallied t verdict (number_of r) (left_by t r)
+unfolding counted tally_refused
+counted-tallied t verdict r e = rw e (go (eqb t.seen 4294967295) (eqb t.seen (t.selected + t.passed_over)) refl refl)
+  where
+    go : (a b : Bool) → eqb t.seen 4294967295 ≡ a → eqb t.seen (t.selected + t.passed_over) ≡ b
+        → let w = cond a (Err AtLimit) (cond b (Ok (risen t verdict)) (Err OutOfBalance)) in Tallied t verdict (number_of w) (left_by t w)
+    go true b p q = record { number_is = rw p; tally_is = rw p }
+    go false true p q = record { number_is = rw (p, q); tally_is = rw (p, q) }
+    go false false p q = record { number_is = rw (p, q); tally_is = rw (p, q) }
 
 -- 12 is given exactly when the tally is full or out of balance.
 pub twelve-iff : {t : Tally} {verdict : Bool} {number : ℕ} {after : Tally} → Tallied t verdict number after
@@ -84,11 +110,5 @@ pub tallied-only : {t : Tally} {verdict : Bool} {n n' : ℕ} {u u' : Tally} → 
 tallied-only p q = (p.number_is ∙ sym q.number_is, p.tally_is ∙ sym q.tally_is)
 
 -- So are two results of `count`.
-pub count-only : {t : Tally} {verdict : Bool} {r r' : Counted} → Tallied t verdict r.number r.tally
-    → Tallied t verdict r'.number r'.tally → r ≡ r'
-count-only {r = r} {r' = r'} p q =
-    let e = tallied-only p q in
-    ap (λ (n : ℕ). made n r.tally) e.0 ∙ ap (made r'.number) e.1
-  where
-    made : ℕ → Tally → Counted
-    made n u = record { number = n; tally = u }
+pub count-only : (t : Tally) (verdict : Bool) {r r' : Result Tally NotCounted} → r ≡ counted t verdict → r' ≡ counted t verdict → r ≡ r'
+count-only t verdict p q = p ∙ sym q

@@ -1,8 +1,10 @@
 -- The running tally: what one verdict makes of it, and when it is refused. Document 01, "Tally" and row 12.
 -- Shuts out: a count that wraps; a refused tally that changes; a balance that a wrapping sum would pass.
 -- Laws: proofs/Laws.antt. Assumes nothing.
-use Rattle.std.specs.Prelude.{ℕ, ◌+◌, ◌≡◌, Bool, cond, not, ◌||◌, eqb}
+use Rattle.std.specs.Prelude.{ℕ, ◌+◌, ◌≡◌, Bool, cond, not, ◌||◌, eqb, Result, Ok, Err}
 use Rattle.tally.specs.declared.export.Tally.{Tally}
+use Rattle.tally.specs.declared.export.NotCounted.{NotCounted}
+use Rattle.tally.specs.declared.export.NotCounted.TheVariants.{AtLimit, OutOfBalance}
 
 -- The tally is full: seen is the largest number of 32 bits.
 abbrev pub Full : Tally → Type 0
@@ -27,12 +29,18 @@ risen t verdict =
 unfoldable pub tally_refused : Tally → Bool
 tally_refused t = eqb t.seen 4294967295 || not (eqb t.seen (t.selected + t.passed_over))
 
+-- What counting a verdict comes to: none is counted where the tally is full, nor else where it is out of balance; else there is one verdict more.
+unfoldable pub counted : Tally → Bool → Result Tally NotCounted
+counted t verdict =
+    cond (eqb t.seen 4294967295) (Err AtLimit)
+    (cond (eqb t.seen (t.selected + t.passed_over)) (Ok (risen t verdict)) (Err OutOfBalance))
+
 -- What a verdict as C passes it says: 0 is false, anything else is true.
 abbrev pub truth_of : ℕ → Bool
 truth_of verdict = not (eqb verdict 0)
 
 -- What counting a verdict answers, and the tally afterwards: 12 and the tally as it was, or 0 and the tally with one verdict more.
--- Both functions promise it, the one that takes and returns the tally, and the one that alters it where it stands.
+-- Promised of the tally that is altered where it stands; the one that is taken and returned comes to the same (law: `counted-tallied`).
 pub record Tallied (t : Tally) (verdict : Bool) (number : ℕ) (after : Tally) : Type 0 where
   pub number_is : number ≡ cond (tally_refused t) 12 0
   pub tally_is : after ≡ cond (tally_refused t) t (risen t verdict)

@@ -1,7 +1,7 @@
 // The running tally: how many verdicts were seen, how many of them were true (selected), and how
 // many were false (passed over). Document 01, "Tally".
 ghost use Rattle.std.specs.Prelude.{◌≡◌, ◌+◌};
-ghost use Rattle.tally.specs.Tally.{tally_refused, Tallied, truth_of};
+ghost use Rattle.tally.specs.Tally.{counted, Tallied, truth_of};
 
 // Three counts that C lends and this crate alters where they stand.
 #[repr(C)]
@@ -12,11 +12,22 @@ pub struct Tally {
     pub passed_over: u32,
 }
 
-// The number, and the tally afterwards.
+// Why a verdict is not counted.
 #[derive(Clone, Copy)]
-pub struct Counted {
-    pub number: u32,
-    pub tally: Tally,
+pub enum NotCounted {
+    // The tally has seen as many verdicts as it can.
+    AtLimit,
+    // What it has seen is not the sum of the others.
+    OutOfBalance,
+}
+
+// The number that C is given for either.
+impl From<NotCounted> for u32 {
+    ghost from_gives = { λ _ number. number ≡ 12 };
+
+    fn from(_why: NotCounted) -> u32 {
+        12
+    }
 }
 
 // The sum of two counts. It is made in 64 bits, where it cannot wrap.
@@ -26,51 +37,43 @@ fn sum_of(a: u32, b: u32) -> u64
     a as u64 + b as u64
 }
 
-// Whether the tally is full, or seen is not the sum of the others.
-fn is_refused(t: Tally) -> bool
-    ensures { result ≡ tally_refused t }
+// The tally with one verdict more, if it is neither full nor out of balance.
+pub fn count(t: Tally, verdict: bool) -> Result<Tally, NotCounted>
+    ensures { result ≡ counted t verdict }
 {
-    (t.seen == 4294967295) | (t.seen as u64 != sum_of(t.selected, t.passed_over))
-}
-
-// One verdict more. Refused (12, and the tally as it was) where the tally is full or out of balance.
-pub fn count(t: Tally, verdict: bool) -> Counted
-    ensures { Tallied t verdict result.number result.tally }
-{
-    if is_refused(t) {
-        return Counted {
-            number: 12,
-            tally: t,
-        };
+    if t.seen == u32::MAX {
+        return Err(NotCounted::AtLimit);
     }
-    let selects = verdict;
-    if selects {
-        Counted {
-            number: 0,
-            tally: Tally {
-                seen: t.seen + 1,
-                selected: t.selected + 1,
-                passed_over: t.passed_over,
-            },
-        }
+    if t.seen as u64 != sum_of(t.selected, t.passed_over) {
+        return Err(NotCounted::OutOfBalance);
+    }
+    let seen = t.seen + 1;
+    if verdict {
+        Ok(Tally {
+            seen,
+            selected: t.selected + 1,
+            ..t
+        })
     } else {
-        Counted {
-            number: 0,
-            tally: Tally {
-                seen: t.seen + 1,
-                selected: t.selected,
-                passed_over: t.passed_over + 1,
-            },
-        }
+        Ok(Tally {
+            seen,
+            passed_over: t.passed_over + 1,
+            ..t
+        })
     }
 }
 
-// Counts a verdict in the tally where it stands: 0 is a false verdict, anything else a true one.
+// Counts a verdict in the tally where it stands: 0 is a false verdict, anything else a true one. A tally
+// in which it is not counted stays as it was.
 #[unsafe(no_mangle)]
 pub extern "C" fn pz_tally(tally: &mut Tally, verdict: u32) -> u32
     ensures { Tallied tally.old (truth_of verdict) result tally.new }
 {
-    let c = count(*tally, verdict != 0);
-    *tally = c.tally;
-    c.number
+    match count(*tally, verdict != 0) {
+        Ok(more) => {
+            *tally = more;
+            0
+        }
+        Err(why) => why.into(),
+    }
 }

@@ -1,14 +1,16 @@
 -- How long the lines can be, and that the buffer has room for all of them.
 -- Assumes nothing.
-use Prim.Native.Nat.{ℕ, zero, suc, ◌+◌, ◌*◌, ◌^◌, ◌≤◌, ◌<◌}
+use Prim.Native.Nat.{ℕ, zero, suc, ◌+◌, ◌*◌, ◌^◌, ◌≤◌, ◌<◌, min}
+use native.Mathlib.Decide.{dec_lt}
 use native.Mathlib.Omega.{arith}
 use native.Mathlib.Numerals.{add-one}
+use borrow.Author.Tests.{lt-ltb, le-ltb}
 use mathlib.Core.Path.{◌≡◌, sym, ap, ◌∙◌}
 use mathlib.Core.Bool.{Bool, true, false}
 use mathlib.Core.List.{List, [], ◌∷◌, ◌++◌, flatten}
 use lib.ListN.{length, get_or, length-append}
 use Rattle.text.specs.Decimal.{decimal}
-use Rattle.text.specs.Rendered.{buffer_size}
+use Rattle.text.specs.Rendered.{buffer_size, clamped}
 use Rattle.text.specs.Text.{ascii, space, line_feed, field, phrase, header_line, element_line, closing_line, line_of, element_lines, accepted_text}
 use Rattle.text.proofs.DecimalLaws.{decimal-short}
 use Rattle.terms.specs.Limits.{elements_most}
@@ -65,6 +67,15 @@ phrase-short first second x y p q =
 -- The buffer has room for it at its front, whatever the numbers are.
 pub phrase-fits : (first second : List ℕ) (x y : ℕ) → length first + length second ≤ 100 → x < 2 ^ 64 → y < 2 ^ 64 → 0 + length (phrase first x second y) ≤ buffer_size
 phrase-fits first second x y h p q = omega (arith, phrase-short first second x y p q)
+
+-- The least of a number and the limit is the number clamped to it.
+pub min-clamped : (n : ℕ) → min n elements_most ≡ clamped n
+unfolding clamped
+min-clamped n =
+    elim (dec_lt elements_most n) [
+      | yes l ↦ rw (lt-ltb _ _ l) (omega arith)
+      | no g ↦ rw (le-ltb elements_most n (omega arith)) (omega arith)
+    ]
 
 -- ---- the whole text
 

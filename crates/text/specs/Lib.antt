@@ -3,3 +3,4 @@ pub mod Decimal
 pub mod Text
 pub mod Lines
 pub mod Rendered
+pub mod Writing

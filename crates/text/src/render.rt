@@ -1,75 +1,54 @@
 // The text of an answer.
-ghost use Rattle.std.specs.Prelude.{◌≡◌, ◌+◌, ◌*◌, ◌≤◌, ◌<◌, length};
+ghost use Rattle.std.specs.Prelude.{◌+◌, ◌*◌, ◌≤◌, length};
 ghost use Rattle.text.specs.Text.{refused_line, element_line};
-ghost use Rattle.text.specs.Rendered.{Put, Rendered, clamped, table_lines, table_text, buffer_size};
+ghost use Rattle.text.specs.Rendered.{Rendered, table_lines, table_text, buffer_size};
+ghost use Rattle.text.specs.Writing.{Writes};
 ghost use Rattle.terms.specs.Limits.{elements_most};
 
-use crate::put::{TEXT_BYTES, put_field, put_phrase, put_word};
+use crate::put::{TEXT_BYTES, Writer};
 use numbers::bits::bit_at;
 use numbers::bytes::wide;
 use terms::limits::ELEMENTS_MOST;
 
-// Puts an element's number, label, level and verdict.
-fn put_element(
-    out: &mut [u8; TEXT_BYTES],
-    at: usize,
-    element: usize,
-    label: usize,
-    level: usize,
-    verdict: bool,
-) -> usize
-    requires { at + length (element_line element label level verdict) ≤ buffer_size }
-    ensures { Put (element_line element label level verdict) out.old at result out.new }
-{
-    let a = put_field(out, at, element, b' ');
-    let b = put_field(out, a, label, b' ');
-    let c = put_field(out, b, level, b' ');
-    put_field(out, c, verdict as usize, b'\n')
-}
-
-// How many elements the tables have, of so many.
-fn at_most(n: usize) -> usize
-    ensures { (result ≡ clamped n) × (result ≤ elements_most) }
-{
-    if ELEMENTS_MOST < n { ELEMENTS_MOST } else { n }
-}
-
-// Puts a line for each of so many elements, in order. An element's verdict is bit `last` of its mark
-// word.
-fn put_elements(
-    out: &mut [u8; TEXT_BYTES],
-    at: usize,
-    labels: &[u16; ELEMENTS_MOST],
-    levels: &[u16; ELEMENTS_MOST],
-    marks: &[u64; ELEMENTS_MOST],
-    elements: usize,
-    last: usize,
-) -> usize
-    requires { (elements ≤ elements_most) × (at + 19 * elements ≤ buffer_size) }
-    ensures put { Put (table_lines labels.now levels.now marks.now last elements) out.old at result out.new }
-    ensures ends { result ≤ at + 19 * elements }
-{
-    let mut next = at;
-    let mut i: usize = 0;
-    while i < elements {
-        next = put_element(
-            out,
-            next,
-            i,
-            wide(labels[i]),
-            wide(levels[i]),
-            bit_at(marks[i], last),
-        );
-        i += 1;
+impl<'a> Writer<'a> {
+    // Puts an element's number, label, level and verdict.
+    fn put_element(&mut self, element: usize, label: usize, level: usize, verdict: bool)
+        requires { self.old.at + length (element_line element label level verdict) ≤ buffer_size }
+        ensures { Writes (element_line element label level verdict) self.old self.new }
+    {
+        self.put_field(element, b' ');
+        self.put_field(label, b' ');
+        self.put_field(level, b' ');
+        self.put_field(verdict as usize, b'\n');
     }
-    next
+
+    // Puts a line for each of so many elements, in order. An element's verdict is bit `last` of its
+    // mark word.
+    fn put_elements(
+        &mut self,
+        labels: &[u16; ELEMENTS_MOST],
+        levels: &[u16; ELEMENTS_MOST],
+        marks: &[u64; ELEMENTS_MOST],
+        elements: usize,
+        last: usize,
+    )
+        requires { (elements ≤ elements_most) × (self.old.at + 19 * elements ≤ buffer_size) }
+        ensures put { Writes (table_lines labels.now levels.now marks.now last elements) self.old self.new }
+        ensures ends { self.new.at ≤ self.old.at + 19 * elements }
+    {
+        for i in 0..elements {
+            self.put_element(i, wide(labels[i]), wide(levels[i]), bit_at(marks[i], last));
+        }
+    }
 }
 
 // Puts `refused N at P`.
 pub fn put_refused(out: &mut [u8; TEXT_BYTES], number: u32, place: usize) -> usize
     ensures { Rendered (refused_line number place) out.old result out.new }
 {
-    put_phrase(out, 0, b"refused ", number as usize, b"at ", place)
+    let mut text = Writer { out, at: 0 };
+    text.put_phrase(b"refused ", number as usize, b"at ", place);
+    text.at
 }
 
 // Puts the header, a line for each of n elements (the tables have 4,096), and `selected S of N`.
@@ -84,8 +63,10 @@ pub fn put_accepted(
 ) -> usize
     ensures { Rendered (table_text labels.now levels.now marks.now last n selected) out.old result out.new }
 {
-    let elements = at_most(n);
-    let first = put_word(out, 0, b"element label level selected\n");
-    let end = put_elements(out, first, labels, levels, marks, elements, last);
-    put_phrase(out, end, b"selected ", selected, b"of ", elements)
+    let elements = n.min(ELEMENTS_MOST);
+    let mut text = Writer { out, at: 0 };
+    text.put_word(b"element label level selected\n");
+    text.put_elements(labels, levels, marks, elements, last);
+    text.put_phrase(b"selected ", selected, b"of ", elements);
+    text.at
 }

@@ -1,31 +1,19 @@
--- `count` refuses exactly where the tally is full or out of balance, and else adds to the right counts. Assumes nothing.
-use native.Mathlib.Omega.{arith}
+-- `count` refuses a full tally, then one out of balance, and else adds to the right counts. Assumes nothing.
 use mathlib.Core.Path.{sym, ◌∙◌}
 use Rattle.tally.specs.Tally.{risen}
-use Rattle.tally.proofs.Laws.{refused-not, tallied-refused, tallied-taken}
+use Rattle.tally.proofs.Laws.{counted-full, counted-unbalanced, counted-taken}
 use Rattle.tally.proofs.export.count.Goals as goal
 
-pub returns-then-is_refused : goal.returns-then-is_refused
-returns-then-is_refused c = tallied-refused _ _ (sym c.is_refused.ensures ∙ c.if-is_refused.true)
+pub returns-then-t-eq4294967295 : goal.returns-then-t-eq4294967295
+returns-then-t-eq4294967295 c = sym (counted-full _ _ c.if-t-eq4294967295.true)
 
-pub overflow_add-result : goal.overflow_add-result
-overflow_add-result c = omega (arith, refused-not _ (sym c.is_refused.ensures ∙ c.if-is_refused.false))
+pub returns-then-t-sum_of : goal.returns-then-t-sum_of
+returns-then-t-sum_of c = sym (counted-unbalanced _ _ c.if-t-eq4294967295.false (λ b. c.if-t-sum_of.true (b ∙ sym c.sum_of.ensures)))
 
-pub overflow_add-result-then-selects : goal.overflow_add-result-then-selects
-overflow_add-result-then-selects c = omega (arith, refused-not _ (sym c.is_refused.ensures ∙ c.if-is_refused.false))
-
-pub overflow_add-result-else-selects : goal.overflow_add-result-else-selects
-overflow_add-result-else-selects c = omega (arith, refused-not _ (sym c.is_refused.ensures ∙ c.if-is_refused.false))
-
-pub overflow_add-result-else-selects-2 : goal.overflow_add-result-else-selects-2
-overflow_add-result-else-selects-2 c = omega (arith, refused-not _ (sym c.is_refused.ensures ∙ c.if-is_refused.false))
-
-pub returns-then-selects : goal.returns-then-selects
+pub returns-then-verdict : goal.returns-then-verdict
 unfolding risen
-returns-then-selects c =
-    tallied-taken _ (sym c.is_refused.ensures ∙ c.if-is_refused.false) c.if-selects.true
+returns-then-verdict c = rw (counted-taken c.args.t c.args.verdict c.if-t-eq4294967295.false (c.if-t-sum_of.false ∙ c.sum_of.ensures), c.if-verdict.true)
 
-pub returns-else-selects : goal.returns-else-selects
+pub returns-else-verdict : goal.returns-else-verdict
 unfolding risen
-returns-else-selects c =
-    tallied-taken _ (sym c.is_refused.ensures ∙ c.if-is_refused.false) c.if-selects.false
+returns-else-verdict c = rw (counted-taken c.args.t c.args.verdict c.if-t-eq4294967295.false (c.if-t-sum_of.false ∙ c.sum_of.ensures), c.if-verdict.false)
