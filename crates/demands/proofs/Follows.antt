@@ -4,9 +4,7 @@ use native.Mathlib.Omega.{arith}
 use mathlib.Core.Path.{◌≡◌, refl, sym}
 use mathlib.Core.Bool.{Bool, true, false, cond}
 use mathlib.Core.Logic.{◌↔◌}
-use Rattle.terms.specs.Answer.{number_of, place_of, count_of}
-use Rattle.terms.specs.declared.answer.Answer.{Answer}
-use Rattle.terms.specs.declared.answer.Answer.TheVariants.{Accepted, Refused}
+use Rattle.terms.specs.Answer.{number_of, place_of, count_of, Answer, Accepted, Refused}
 use Rattle.terms.proofs.AnswerLaws.{Sound, refused-not}
 use Rattle.numbers.proofs.Tells.{IsTest, holds, fails}
 use Rattle.demands.specs.Demands.{Follows}

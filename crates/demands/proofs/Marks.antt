@@ -15,16 +15,13 @@ use Rattle.numbers.specs.Lists.{over}
 use Rattle.numbers.proofs.BitLaws.{word-past}
 use Rattle.numbers.proofs.Lists.{over_none, over-length}
 use Rattle.numbers.proofs.Tells.{IsTest, holds, fails, ltb-tests}
-use Rattle.terms.specs.Answer.{number_of, by_answer, in_order}
-use Rattle.terms.specs.declared.answer.Answer.{Answer}
-use Rattle.terms.specs.declared.answer.Answer.TheVariants.{Accepted, Refused}
+use Rattle.terms.specs.Answer.{number_of, by_answer, in_order, Answer, Accepted, Refused, count_of}
 use Rattle.terms.proofs.AnswerLaws.{refused-not}
 use Rattle.entry.specs.declared.entry.Entry.{Entry}
 use Rattle.rules.specs.Rule.{rule_answer}
 use Rattle.reports.specs.Report.{report_answer}
 use Rattle.reports.specs.Elements.{labels_of, levels_of}
 use Rattle.rules.specs.Entries.{entries_of}
-use Rattle.terms.specs.Answer.{count_of}
 use Rattle.grammar.specs.Rules.{IsRule}
 use Rattle.grammar.specs.Reports.{Tree, size_t, IsReport}
 use Rattle.grammar.proofs.Refusals.{rule-refused-iff, report-refused-iff}

@@ -13,9 +13,7 @@ use Rattle.numbers.specs.Bytes.{Bytes, word_at, number_at, two_bytes}
 use Rattle.numbers.proofs.TwoBytes.{number-back, bytes_back}
 use Rattle.numbers.proofs.Lists.{over-is}
 use Rattle.terms.specs.Limits.{elements_most}
-use Rattle.terms.specs.Answer.{number_of}
-use Rattle.terms.specs.declared.answer.Answer.{Answer}
-use Rattle.terms.specs.declared.answer.Answer.TheVariants.{Accepted, Refused}
+use Rattle.terms.specs.Answer.{number_of, Answer, Accepted, Refused}
 use Rattle.terms.proofs.AnswerLaws.{refused-not}
 use Rattle.entry.specs.declared.entry.Entry.{Entry}
 use Rattle.reports.specs.Elements.{labels_of, levels_of}

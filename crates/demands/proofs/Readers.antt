@@ -4,8 +4,7 @@ use mathlib.Core.Path.{◌≡◌, sym, ap, ◌∙◌}
 use mathlib.Core.List.{List}
 use lib.ListN.{length}
 use Rattle.numbers.specs.Bytes.{Bytes}
-use Rattle.terms.specs.Answer.{number_of, count_of}
-use Rattle.terms.specs.declared.answer.Answer.TheVariants.{Accepted}
+use Rattle.terms.specs.Answer.{number_of, count_of, Accepted}
 use Rattle.entry.specs.declared.entry.Entry.{Entry}
 use Rattle.rules.specs.Rule.{rule_answer}
 use Rattle.rules.specs.Entries.{entries_of}

@@ -11,7 +11,7 @@ use lib.ListN.{length, get_or}
 use Rattle.reports.specs.Report.{report_answer, tags_of as tags_in}
 use Rattle.rules.specs.Rule.{rule_answer}
 use Rattle.tag.specs.Tags.{opens, labels, opened_count}
-use Rattle.terms.specs.declared.answer.Answer.TheVariants.{Accepted}
+use Rattle.terms.specs.Answer.{Accepted}
 use Rattle.tag.proofs.TagLaws.{opened-append}
 use Rattle.numbers.specs.Bytes.{Bytes}
 use Rattle.grammar.proofs.Elements.{labels-accepted, elements-count, levels-elements}

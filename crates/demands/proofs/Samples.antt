@@ -12,7 +12,7 @@ use Rattle.numbers.specs.Lists.{listed}
 use Rattle.numbers.proofs.Tells.{and-true}
 use Rattle.terms.specs.Frame.{frame_of, next_of, start_of}
 use Rattle.terms.specs.Kinds.{row_of, numbers_of, local_numbers, leads_back}
-use Rattle.terms.specs.declared.answer.Answer.TheVariants.{Accepted}
+use Rattle.terms.specs.Answer.{Accepted}
 use Rattle.entry.specs.Entry.{entry_of, entry_at, misdirected, rule_fault}
 use Rattle.entry.specs.declared.entry.Entry.{Entry}
 use Rattle.rules.specs.Rule.{rule_stops, rule_answer_at, rule_answer}

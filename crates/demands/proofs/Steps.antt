@@ -12,9 +12,7 @@ use Rattle.numbers.specs.Bytes.{Bytes}
 use Rattle.numbers.specs.Bits.{bit}
 use Rattle.numbers.proofs.Tells.{IsTest, holds, fails, test_iff, eqb-tests, not-tests}
 use Rattle.terms.specs.Kinds.{looks_back}
-use Rattle.terms.specs.Answer.{number_of, by_answer, in_order, numbered}
-use Rattle.terms.specs.declared.answer.Answer.{Answer}
-use Rattle.terms.specs.declared.answer.Answer.TheVariants.{Accepted, Refused}
+use Rattle.terms.specs.Answer.{number_of, by_answer, in_order, numbered, Answer, Accepted, Refused}
 use Rattle.terms.proofs.AnswerLaws.{refused-not}
 use Rattle.entry.specs.declared.entry.Entry.{Entry}
 use Rattle.tag.specs.Tags.{Tag, opens, closes, tag_fault}

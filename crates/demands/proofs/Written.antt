@@ -10,7 +10,7 @@ use lib.Seq.{take-append_seam, drop-append_seam}
 use Rattle.numbers.proofs.Lists.{over-is}
 use Rattle.numbers.proofs.Tells.{IsTest, holds, fails, or-tests, not-tests, eqb-tests}
 use Rattle.terms.specs.Limits.{entries_most}
-use Rattle.terms.specs.declared.answer.Answer.TheVariants.{Refused}
+use Rattle.terms.specs.Answer.{Refused}
 use Rattle.entry.specs.declared.entry.Entry.{Entry}
 use Rattle.meaning.specs.Rose.{labels_t, levels_t}
 use Rattle.tally.specs.Tally.{Full, Balanced, tally_refused, risen}

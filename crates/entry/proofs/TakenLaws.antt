@@ -2,7 +2,7 @@
 -- Assumes nothing.
 use Prim.Native.Nat.{ℕ, ◌+◌, ◌*◌, ◌≤◌, ◌<◌}
 use native.Mathlib.Omega.{arith}
-use borrow.Author.Tests.{le-leb, lt-leb, leb-false, eq-eqb, ne_eqb, eqb-true}
+use borrow.Author.Tests.{le-leb, lt-leb, leb-false}
 use mathlib.Core.Path.{◌≡◌, refl, sym, ap, ◌∙◌}
 use mathlib.Core.Bool.{Bool, true, false, cond}
 use mathlib.Core.List.{List}
@@ -11,7 +11,10 @@ use lib.ListN.{length}
 use Rattle.numbers.specs.Bytes.{number_at}
 use Rattle.terms.specs.Frame.{frame_of, kind_at, broken, next_of}
 use Rattle.terms.specs.Kinds.{row_of}
-use Rattle.entry.specs.Entry.{entry_of, entry_at, misdirected, faulty_at, fine_at, taken_at, rule_fault}
+use Rattle.entry.specs.Entry.{entry_of, entry_at, misdirected, rule_fault}
+use Rattle.entry.specs.Taken.{EntryTaken, EntryJudged}
+use Rattle.std.specs.Prelude.{Result, Ok, Err}
+use Rattle.terms.specs.declared.refusal.Fault.{Fault}
 use Rattle.terms.specs.declared.frame.Frame.{Frame}
 use Rattle.terms.specs.declared.frame.Frame.TheVariants.{Whole, Cut, Garbled}
 use Rattle.terms.specs.declared.kind.Row.{Row}
@@ -70,43 +73,19 @@ rule-sound s own at e =
 
 -- ---- what a record is taken for
 
-module _ (s : List ℕ) (own at : ℕ) where
-  -- A record with a number.
-  pub taken-faulty : (n : ℕ) → n ≡ rule_fault s own at → (n ≡ 0 → ⊥) → faulty_at n at ≡ taken_at s own at
-  unfolding taken_at
-  taken-faulty n e z = rw (← e, ne_eqb n 0 z)
+-- Row 3's number, by a test.
+abbrev three : Bool → ℕ
+three b = cond b 3 0
 
+module _ (s : List ℕ) (own at : ℕ) where
   -- A whole record: its entry decides.
   pub taken-whole : (row : Row) → row ≡ row_of (kind_at s at) → own < entries_most → Whole ≡ frame_of s at row.length
-      → (e : Entry) (next : ℕ) (t : Taken) → e ≡ entry_of row s at → next ≡ at + 2 + row.length
-      → t ≡ cond (misdirected row.numbers row.arguments own e) (faulty_at 3 at) (fine_at e next) → t ≡ taken_at s own at
-  unfolding taken_at next_of entry_at
-  taken-whole row is l w e next t p q r =
-      go (misdirected row.numbers row.arguments own e) (ap (λ (x : Entry). cond (misdirected row.numbers row.arguments own x) 3 0) p ∙ rule-whole s own at row is l w) r
-    where
-      long : number_at s at ≡ row.length
-      long = (whole-stands s at row.length (sym w)).long
-
-      go : (b : Bool) → cond b 3 0 ≡ rule_fault s own at → t ≡ cond b (faulty_at 3 at) (fine_at e next) → t ≡ taken_at s own at
-      go true f z = z ∙ taken-faulty 3 f (λ y. omega arith)
-      go false f z =
-          z ∙ ap (λ (x : Entry). fine_at x next) (p ∙ ap (λ (x : Row). entry_of x s at) is)
-          ∙ ap (fine_at (entry_at s at)) (q ∙ ap (λ (n : ℕ). at + 2 + n) (sym long))
-          ∙ rw (eq-eqb (rule_fault s own at) 0 (sym f))
-
-  module _ (t : Taken) (e : t ≡ taken_at s own at) where
-    -- The number is the record's.
-    pub taken-fault : t.fault ≡ rule_fault s own at
-    unfolding taken_at
-    taken-fault = ap (λ (x : Taken). x.fault) e ∙ go (rule_fault s own at) (eqb (rule_fault s own at) 0) refl
-      where
-        go : (f : ℕ) (b : Bool) → eqb f 0 ≡ b → (cond b (fine_at (entry_at s at) (next_of s at)) (faulty_at f at)).fault ≡ f
-        go f true k = sym (eqb-true f 0 k)
-        go f false k = refl
-
-    -- Without one, the entry and the next offset are.
-    pub taken_fine : t.fault ≡ 0 → (t.entry ≡ entry_at s at) × (t.next ≡ next_of s at)
-    unfolding taken_at
-    taken_fine z =
-        let f : t ≡ fine_at (entry_at s at) (next_of s at) = e ∙ rw (eq-eqb (rule_fault s own at) 0 (sym taken-fault ∙ z)) in
-        (ap (λ (x : Taken). x.entry) f, ap (λ (x : Taken). x.next) f)
+      → (e : Entry) (next : ℕ) (r : Result Taken Fault) → e ≡ entry_of row s at → next ≡ at + 2 + row.length
+      → EntryJudged row own e next r → EntryTaken s own at r
+  unfolding next_of entry_at
+  taken-whole row is l w e next (Ok t) p q (fine, entry, on) = (
+    sym (sym (ap three fine) ∙ ap (λ (x : Entry). three (misdirected row.numbers row.arguments own x)) p ∙ rule-whole s own at row is l w),
+    entry ∙ p ∙ ap (λ (x : Row). entry_of x s at) is,
+    on ∙ q ∙ ap (λ (n : ℕ). at + 2 + n) (sym (whole-stands s at row.length (sym w)).long),
+  )
+  taken-whole row is l w e next (Err f) p q (wrong, is_three) = is_three ∙ sym (ap three wrong) ∙ ap (λ (x : Entry). three (misdirected row.numbers row.arguments own x)) p ∙ rule-whole s own at row is l w

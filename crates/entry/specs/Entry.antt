@@ -10,7 +10,6 @@ use Rattle.terms.specs.declared.kind.Numbers.{Numbers}
 use Rattle.terms.specs.declared.kind.Numbers.TheVariants.{Nothing, Label, Entries}
 use Rattle.terms.specs.declared.kind.Row.{Row}
 use Rattle.entry.specs.declared.entry.Entry.{Entry}
-use Rattle.entry.specs.declared.entry.Taken.{Taken}
 use Rattle.terms.specs.Limits.{entries_most, outside}
 
 -- The entry whose record, of this row, stands at an offset: its kind, and the numbers of its body, 0 where it has none.
@@ -47,13 +46,3 @@ row3 s own at = misdirected (row_of (kind_at s at)).numbers (row_of (kind_at s a
 -- The number that the record gets, in the order 4, 2, 3; 0 where it has no fault.
 unfoldable pub rule_fault : List ℕ → ℕ → ℕ → ℕ
 rule_fault s own at = cond (row4 own) 4 (cond (row2 s at) 2 (cond (row3 s own at) 3 0))
-
--- What a record is taken for: with a number there is no entry, and reading stays; without, there are its entry and the next offset.
-abbrev pub faulty_at : ℕ → ℕ → Taken
-faulty_at number at = record { fault = number; entry = record { kind = 0; a = 0; b = 0 }; next = at }
-
-abbrev pub fine_at : Entry → ℕ → Taken
-fine_at e next = record { fault = 0; entry = e; next = next }
-
-unfoldable pub taken_at : List ℕ → ℕ → ℕ → Taken
-taken_at s own at = cond (eqb (rule_fault s own at) 0) (fine_at (entry_at s at) (next_of s at)) (faulty_at (rule_fault s own at) at)

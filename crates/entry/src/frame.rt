@@ -15,7 +15,7 @@ pub(crate) fn frame_of(s: &[u8], at: usize, expected: usize) -> Frame
     if unknown {
         return Frame::Garbled;
     }
-    let length = number_at(s, at);
+    let length = number_at(s, at) as usize;
     let other_length = length != expected;
     if other_length {
         return Frame::Garbled;

@@ -6,7 +6,7 @@ use native.Mathlib.Omega.{arith}
 use mathlib.Core.Path.{◌≡◌, refl, sym, ap, ◌∙◌}
 use mathlib.Core.List.{List, [], ◌∷◌, ◌++◌}
 use lib.ListN.{replicate}
-use Rattle.terms.specs.declared.answer.Answer.TheVariants.{Accepted}
+use Rattle.terms.specs.Answer.{Accepted}
 use Rattle.terms.specs.Limits.{label_most}
 use Rattle.reports.specs.Report.{tags_of, report_answer}
 use Rattle.tag.specs.Tags.{Tag, opens, closes, depth_from, depth, labels, opened_count}

@@ -12,8 +12,7 @@ use lib.ListN.{length}
 use borrow.Author.Tests.{eq-eqb, ne_eqb}
 use Rattle.numbers.specs.First.{first}
 use Rattle.terms.specs.Frame.{start_of, stops_at}
-use Rattle.terms.specs.declared.answer.Answer.{Answer}
-use Rattle.terms.specs.declared.answer.Answer.TheVariants.{Refused}
+use Rattle.terms.specs.Answer.{Answer, Refused}
 use Rattle.numbers.proofs.First.{first-is, first-before, first-there}
 use Rattle.grammar.specs.When.{Faulty, Sized}
 use Rattle.grammar.proofs.Frame.{start-strict, start-within}

@@ -6,12 +6,10 @@ use native.Mathlib.Omega.{arith}
 use mathlib.Core.Path.{◌≡◌, refl, sym, ap, ◌∙◌}
 use mathlib.Core.List.{List, []}
 use lib.ListN.{length, length-append}
-use Rattle.terms.specs.Answer.{count_of, where_accepted}
+use Rattle.terms.specs.Answer.{count_of, where_accepted, Answer, Accepted, Refused}
 use Rattle.terms.specs.Frame.{start_of}
 use Rattle.reports.specs.Report.{tags_before, report_fault, report_answer, tags_of}
 use Rattle.tag.specs.Tags.{labels, levels, opened_count}
-use Rattle.terms.specs.declared.answer.Answer.{Answer}
-use Rattle.terms.specs.declared.answer.Answer.TheVariants.{Accepted, Refused}
 use Rattle.grammar.specs.Legal.{Legal, LegalLevels}
 use Rattle.grammar.specs.Reports.{Tree, tags_t, bytes_of, Labelled, Within}
 use Rattle.grammar.proofs.Decides.{CleanEnd}

@@ -8,13 +8,11 @@ use mathlib.Core.List.{List}
 use mathlib.Core.Logic.{inl, inr}
 use lib.ListN.{length, get_or}
 use borrow.Author.Tests.{lt-leb}
-use Rattle.terms.specs.Answer.{count_of}
+use Rattle.terms.specs.Answer.{count_of, Answer, Accepted, Refused}
 use Rattle.terms.specs.Frame.{kind_at, start_of}
 use Rattle.terms.specs.Kinds.{row_of, rule_length}
 use Rattle.entry.specs.Entry.{entry_of, entry_at}
 use Rattle.rules.specs.Rule.{rule_answer, rule_faults}
-use Rattle.terms.specs.declared.answer.Answer.{Answer}
-use Rattle.terms.specs.declared.answer.Answer.TheVariants.{Accepted, Refused}
 use Rattle.terms.specs.declared.kind.Numbers.TheVariants.{Entries}
 use Rattle.entry.specs.declared.entry.Entry.{Entry}
 use Rattle.grammar.specs.Rules.{no_entry, WellFormed, RuleEntries}

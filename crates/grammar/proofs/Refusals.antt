@@ -7,7 +7,7 @@ use mathlib.Core.List.{List}
 use mathlib.Core.Logic.{◌⊎◌, inl, inr, ◌↔◌}
 use lib.ListN.{length}
 use Rattle.terms.specs.Frame.{start_of}
-use Rattle.terms.specs.declared.answer.Answer.TheVariants.{Refused}
+use Rattle.terms.specs.Answer.{Refused}
 use Rattle.terms.specs.Limits.{entries_most}
 use Rattle.tag.specs.Tags.{depth, opened_count}
 use Rattle.tag.specs.Record.{tag_at}

@@ -17,7 +17,7 @@ use Rattle.terms.specs.Frame.{kind_at, next_of, start_of}
 use Rattle.tag.specs.Tags.{Tag, opens, closes, opened_count}
 use Rattle.tag.specs.Record.{report_length, tag_at}
 use Rattle.reports.specs.Report.{tags_before, report_fault, report_answer, tags_of}
-use Rattle.terms.specs.declared.answer.Answer.TheVariants.{Accepted}
+use Rattle.terms.specs.Answer.{Accepted}
 use Rattle.numbers.specs.Bytes.{two_bytes, Bytes}
 use Rattle.grammar.specs.Legal.{Fit, Legal}
 use Rattle.grammar.specs.Reports.{Tree, tag_bytes, bytes_of, tags_t, size_t, Within}

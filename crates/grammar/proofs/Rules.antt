@@ -8,12 +8,11 @@ use mathlib.Core.List.{List, [], ◌∷◌, ◌++◌, append_assoc, append-nil}
 use mathlib.Core.Logic.{◌↔◌}
 use lib.ListN.{length, get_or, take, drop, length-append}
 use lib.Seq.{take-add, take-suc, take-length, split_at, ext_get_or}
-use Rattle.terms.specs.Answer.{count_of}
+use Rattle.terms.specs.Answer.{count_of, Accepted}
 use Rattle.numbers.specs.Bytes.{number_at}
 use Rattle.terms.specs.Frame.{next_of, start_of}
 use Rattle.entry.specs.Entry.{entry_at, rule_fault}
 use Rattle.rules.specs.Rule.{rule_answer, rule_faults}
-use Rattle.terms.specs.declared.answer.Answer.TheVariants.{Accepted}
 use Rattle.entry.specs.declared.entry.Entry.{Entry}
 use Rattle.terms.specs.Kinds.{rule_length}
 use Rattle.numbers.specs.Bytes.{Bytes}

@@ -10,7 +10,7 @@ use Rattle.terms.specs.Frame.{kind_at, next_of, start_of}
 use Rattle.tag.specs.Record.{tag_at}
 use Rattle.reports.specs.Report.{tags_before, report_fault, report_answer}
 use Rattle.tag.specs.Tags.{Tag, depth_from, depth, labels, opened_count}
-use Rattle.terms.specs.declared.answer.Answer.TheVariants.{Accepted}
+use Rattle.terms.specs.Answer.{Accepted}
 use Rattle.tag.proofs.RecordLaws.{tag-opens, tag-closes, record-sound, close-sound, opens-size, closes-size}
 use Rattle.tag.proofs.TagLaws.{depth-append, labels_append}
 use Rattle.grammar.proofs.WhenReport.{report-accepted-iff}

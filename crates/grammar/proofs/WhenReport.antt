@@ -13,8 +13,7 @@ use Rattle.terms.specs.Frame.{frame_of, kind_at, broken, start_of, stops_at}
 use Rattle.tag.specs.Tags.{Tag, depth, opened_count, tag_fault, end_of}
 use Rattle.tag.specs.Record.{report_length, tag_at, record_fault}
 use Rattle.reports.specs.Report.{tags_before, report_fault, report_stops, report_answer_at, report_answer, last_record}
-use Rattle.terms.specs.declared.answer.Answer.{Answer}
-use Rattle.terms.specs.declared.answer.Answer.TheVariants.{Accepted, Refused}
+use Rattle.terms.specs.Answer.{Answer, Accepted, Refused}
 use Rattle.grammar.specs.When.{Faulty, Sized, Row6, Row7, Row8}
 use Rattle.numbers.proofs.Tells.{IsTest, holds, fails, or-tests, eqb-tests, pick-later}
 use Rattle.grammar.proofs.Chain.{chain, chain-numbers, chain-first-iff, chain-second-iff, chain-third-iff}

@@ -14,8 +14,7 @@ use Rattle.terms.specs.Frame.{frame_of, kind_at, broken, start_of}
 use Rattle.terms.specs.Kinds.{row_of, rule_length}
 use Rattle.entry.specs.Entry.{entry_at, misdirected, rule_fault}
 use Rattle.rules.specs.Rule.{rule_stops, rule_answer_at, rule_answer, rule_faults}
-use Rattle.terms.specs.declared.answer.Answer.{Answer}
-use Rattle.terms.specs.declared.answer.Answer.TheVariants.{Accepted, Refused}
+use Rattle.terms.specs.Answer.{Answer, Accepted, Refused}
 use Rattle.terms.specs.declared.kind.Numbers.{Numbers}
 use Rattle.terms.specs.declared.kind.Numbers.TheVariants.{Nothing, Label, Entries}
 use Rattle.terms.specs.declared.kind.Row.{Row}

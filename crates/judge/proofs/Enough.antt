@@ -12,9 +12,7 @@ use lib.Seq.{length-take-le, take-append-le, drop-append-le}
 use Rattle.numbers.specs.Bytes.{word_at}
 use Rattle.rules.specs.Rule.{rule_answer}
 use Rattle.reports.specs.Report.{report_answer}
-use Rattle.terms.specs.Answer.{in_order}
-use Rattle.terms.specs.declared.answer.Answer.{Answer}
-use Rattle.terms.specs.declared.answer.Answer.TheVariants.{Accepted, Refused}
+use Rattle.terms.specs.Answer.{in_order, Answer, Accepted, Refused}
 use Rattle.grammar.proofs.WhenRule.{rule-1-iff}
 use Rattle.grammar.proofs.WhenReport.{report-5-iff}
 use Rattle.marking.specs.Evaluation.{short_of_room, outcome}

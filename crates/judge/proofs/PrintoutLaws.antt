@@ -8,9 +8,7 @@ use mathlib.Core.Logic.{◌↔◌}
 use mathlib.Core.List.{List, [], ◌∷◌, ◌++◌, flatten}
 use lib.ListN.{length, get_or}
 use lib.Seq.{length-sets}
-use Rattle.terms.specs.Answer.{number_of, count_of, in_order, Accepts}
-use Rattle.terms.specs.declared.answer.Answer.{Answer}
-use Rattle.terms.specs.declared.answer.Answer.TheVariants.{Accepted, Refused}
+use Rattle.terms.specs.Answer.{number_of, count_of, in_order, Accepts, Answer, Accepted, Refused}
 use Rattle.terms.proofs.AnswerLaws.{Sound, order-sound, refused-not}
 use Rattle.reports.specs.Report.{report_answer}
 use Rattle.grammar.proofs.Entries.{entries-count, entries-some}

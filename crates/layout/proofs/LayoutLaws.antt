@@ -9,11 +9,9 @@ use mathlib.Core.Option.{Option, none, some}
 use lib.Dec.{ltb}
 use lib.ListN.{length, get_or, take, drop}
 use lib.Seq.{take-append_seam, ext_get_or, length-take-le}
-use Rattle.terms.specs.Answer.{count_of}
+use Rattle.terms.specs.Answer.{count_of, Answer, Accepted, Refused}
 use Rattle.reports.specs.Report.{report_answer}
 use Rattle.terms.specs.Limits.{elements_most}
-use Rattle.terms.specs.declared.answer.Answer.{Answer}
-use Rattle.terms.specs.declared.answer.Answer.TheVariants.{Accepted, Refused}
 use Rattle.grammar.specs.Legal.{LegalLevels}
 use Rattle.grammar.proofs.Elements.{elements-count, levels-elements, levels-legal, elements-few}
 use Rattle.grammar.proofs.Sizes.{accepted-size}

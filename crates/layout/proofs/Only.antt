@@ -3,7 +3,7 @@
 use Prim.Native.Nat.{ℕ}
 use mathlib.Core.Path.{◌≡◌}
 use mathlib.Core.List.{List}
-use Rattle.terms.specs.declared.answer.Answer.{Answer}
+use Rattle.terms.specs.Answer.{Answer}
 use Rattle.layout.specs.Layout.{LaidOut}
 use Rattle.numbers.proofs.Only.{only}
 use Rattle.reports.proofs.Only.{read-elements-only}

@@ -3,7 +3,7 @@
 -- Shuts out: a parent or a sibling put where a column has no room; a refused report's elements linked.
 -- Laws: proofs/LayoutLaws.antt, proofs/Only.antt. Assumes nothing.
 use Rattle.std.specs.Prelude.{ℕ, ◌≡◌, cond, List, [], ltb, length}
-use Rattle.terms.specs.declared.answer.Answer.{Answer}
+use Rattle.terms.specs.Answer.{Answer}
 use Rattle.layout.specs.Links.{parents, previous_siblings}
 use Rattle.reports.specs.Elements.{levels_of, ElementsTaken}
 use Rattle.numbers.specs.Lists.{over}

@@ -10,11 +10,9 @@ use mathlib.Core.List.{List, []}
 use lib.Dec.{ltb}
 use lib.ListN.{length, take}
 use lib.Seq.{length-take-le}
-use Rattle.terms.specs.Answer.{number_of, count_of, place_of, by_answer, in_order}
+use Rattle.terms.specs.Answer.{number_of, count_of, place_of, by_answer, in_order, Answer, Accepted, Refused}
 use Rattle.rules.specs.Rule.{rule_answer}
 use Rattle.reports.specs.Report.{report_answer}
-use Rattle.terms.specs.declared.answer.Answer.{Answer}
-use Rattle.terms.specs.declared.answer.Answer.TheVariants.{Accepted, Refused}
 use Rattle.entry.specs.declared.entry.Entry.{Entry}
 use Rattle.terms.specs.Limits.{entries_most, report_most}
 use Rattle.grammar.specs.Table.{entries_in}

@@ -9,8 +9,7 @@ use mathlib.Core.Bool.{true}
 use mathlib.Core.Logic.{◌↔◌}
 use mathlib.Core.List.{List, []}
 use lib.ListN.{length, get_or}
-use Rattle.terms.specs.Answer.{count_of, by_answer}
-use Rattle.terms.specs.declared.answer.Answer.{Answer}
+use Rattle.terms.specs.Answer.{count_of, by_answer, Answer}
 use Rattle.grammar.proofs.Elements.{levels-elements}
 use Rattle.meaning.specs.Meaning.{Holds}
 use Rattle.meaning.specs.Marks.{word_of, words, selected, verdict}

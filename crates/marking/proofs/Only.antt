@@ -5,8 +5,7 @@ use Prim.Native.Nat.{ℕ}
 use mathlib.Core.Path.{◌≡◌, ap₂}
 use mathlib.Core.List.{List}
 use Rattle.rules.specs.Rule.{rule_answer}
-use Rattle.terms.specs.declared.answer.Answer.{Answer}
-use Rattle.terms.specs.declared.answer.Answer.TheVariants.{Accepted, Refused}
+use Rattle.terms.specs.Answer.{Answer, Accepted, Refused}
 use Rattle.layout.proofs.Only.{laid-out-only}
 use Rattle.marking.specs.Evaluation.{ColumnsAfter, ReportMarked, Evaluated}
 use Rattle.marking.specs.declared.report.Evaluation.{Evaluation}

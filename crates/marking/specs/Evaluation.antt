@@ -4,12 +4,10 @@
 -- Shuts out: a refusal that writes; 9 before 6; an invented count; a word past the last element written.
 -- Laws: proofs/Means.antt (what the promise comes to), proofs/AnswerLaws.antt, proofs/Only.antt. Assumes nothing.
 use Rattle.std.specs.Prelude.{ℕ, ◌≡◌, cond, List, [], ltb, length}
-use Rattle.terms.specs.Answer.{number_of, place_of, count_of, by_answer, in_order}
+use Rattle.terms.specs.Answer.{number_of, place_of, count_of, by_answer, in_order, Answer, Accepted, Refused}
 use Rattle.rules.specs.Rule.{rule_answer}
 use Rattle.reports.specs.Report.{report_answer}
-use Rattle.terms.specs.declared.answer.Answer.{Answer}
 use Rattle.entry.specs.declared.entry.Entry.{Entry}
-use Rattle.terms.specs.declared.answer.Answer.TheVariants.{Accepted, Refused}
 use Rattle.meaning.specs.Marks.{words, selected}
 use Rattle.layout.specs.Layout.{least_of, room_in, LaidOut}
 use Rattle.marking.specs.declared.report.Evaluation.{Evaluation}

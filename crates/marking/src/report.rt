@@ -3,7 +3,7 @@ ghost use Rattle.std.specs.Prelude.{◌≡◌, ◌≤◌};
 ghost use Rattle.grammar.specs.Table.{entries_in};
 ghost use Rattle.grammar.specs.Rules.{RuleEntries};
 ghost use Rattle.terms.specs.Limits.{report_most};
-ghost use Rattle.terms.specs.declared.answer.Answer.TheVariants.{Refused};
+ghost use Rattle.terms.specs.Answer.{Refused};
 ghost use Rattle.marking.specs.Evaluation.{evaluation_of, MarkedBy, ReportMarked};
 
 use crate::elements::mark_elements;

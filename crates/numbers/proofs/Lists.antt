@@ -65,32 +65,33 @@ module _ {A : Type 0} where
 
 -- ---- values stored in a lent list
 
--- No value: the list as it was.
-pub over_none : (lent : List ℕ) → over [] lent ≡ lent
-unfolding put_at
-over_none lent = refl
+module _ {A : Type 0} where
+  -- No value: the list as it was.
+  pub over_none : (lent : List A) → over [] lent ≡ lent
+  unfolding put_at
+  over_none lent = refl
 
--- One value more, stored behind the others.
-sets-next : (vs lent : List ℕ) (k x : ℕ) → set (sets lent k vs) (k + length vs) x ≡ sets lent k (vs ++ (x ∷ []))
-sets-next [] lent k x = ap (λ (i : ℕ). set lent i x) (add-zero k)
-sets-next (v ∷ vs) lent k x =
-    let e : k + suc (length vs) ≡ suc k + length vs = omega arith in
-    ap (λ (i : ℕ). set (sets (set lent k v) (suc k) vs) i x) e ∙ sets-next vs (set lent k v) (suc k) x
+  -- One value more, stored behind the others.
+  sets-next : (vs lent : List A) (k : ℕ) (x : A) → set (sets lent k vs) (k + length vs) x ≡ sets lent k (vs ++ (x ∷ []))
+  sets-next [] lent k x = ap (λ (i : ℕ). set lent i x) (add-zero k)
+  sets-next (v ∷ vs) lent k x =
+      let e : k + suc (length vs) ≡ suc k + length vs = omega arith in
+      ap (λ (i : ℕ). set (sets (set lent k v) (suc k) vs) i x) e ∙ sets-next vs (set lent k v) (suc k) x
 
-pub over-next : (xs lent : List ℕ) (x i : ℕ) → length xs ≡ i → set (over xs lent) i x ≡ over (xs ++ (x ∷ [])) lent
-unfolding put_at
-over-next xs lent x i e = ap (λ (k : ℕ). set (sets lent 0 xs) k x) (sym e ∙ sym (zero-add (length xs))) ∙ sets-next xs lent 0 x
+  pub over-next : (xs lent : List A) (x : A) (i : ℕ) → length xs ≡ i → set (over xs lent) i x ≡ over (xs ++ (x ∷ [])) lent
+  unfolding put_at
+  over-next xs lent x i e = ap (λ (k : ℕ). set (sets lent 0 xs) k x) (sym e ∙ sym (zero-add (length xs))) ∙ sets-next xs lent 0 x
 
--- The list keeps its length.
-pub over-length : (xs lent : List ℕ) → length (over xs lent) ≡ length lent
-unfolding put_at
-over-length xs lent = length-sets lent 0 xs
+  -- The list keeps its length.
+  pub over-length : (xs lent : List A) → length (over xs lent) ≡ length lent
+  unfolding put_at
+  over-length xs lent = length-sets lent 0 xs
 
--- Where there is room, the first places hold the values, and those past them what they held.
-pub over-is : (xs lent : List ℕ) → length xs ≤ length lent → over xs lent ≡ xs ++ drop (length xs) lent
-unfolding put_at
-over-is xs lent h =
-    sets-eq xs lent 0 (omega arith) ∙ ap (λ (k : ℕ). xs ++ drop k lent) (zero-add (length xs))
+  -- Where there is room, the first places hold the values, and those past them what they held.
+  pub over-is : (xs lent : List A) → length xs ≤ length lent → over xs lent ≡ xs ++ drop (length xs) lent
+  unfolding put_at
+  over-is xs lent h =
+      sets-eq xs lent 0 (omega arith) ∙ ap (λ (k : ℕ). xs ++ drop k lent) (zero-add (length xs))
 
 pub over-at : (xs lent : List ℕ) → length xs ≤ length lent → (i : ℕ) → i < length xs → get_or (over xs lent) i 0 ≡ get_or xs i 0
 over-at xs lent r i h = rw (over-is xs lent r) (get_or-append xs (drop (length xs) lent) 0 i h)

@@ -11,10 +11,11 @@ module _ {A : Type 0} where
 
 -- ==== Working definitions: nothing below has to be believed
 
--- A lent list with the values xs stored from an offset on, one after the other; every other place keeps its contents.
-unfoldable pub put_at : List ℕ → ℕ → List ℕ → List ℕ
-put_at lent at xs = sets lent at xs
+module _ {A : Type 0} where
+  -- A lent list with the values xs stored from an offset on, one after the other; every other place keeps its contents.
+  unfoldable pub put_at : List A → ℕ → List A → List A
+  put_at lent at xs = sets lent at xs
 
--- Stored in its first places.
-abbrev pub over : List ℕ → List ℕ → List ℕ
-over xs lent = put_at lent 0 xs
+  -- Stored in its first places.
+  abbrev pub over : List A → List A → List A
+  over xs lent = put_at lent 0 xs

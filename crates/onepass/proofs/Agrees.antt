@@ -11,8 +11,7 @@ use mathlib.Core.Bool.{Bool, true, false, cond}
 use mathlib.Core.List.{List, [], ◌∷◌, ◌++◌, append_assoc, append-nil}
 use lib.Dec.{eqb}
 use lib.ListN.{length}
-use Rattle.terms.specs.declared.answer.Answer.{Answer}
-use Rattle.terms.specs.declared.answer.Answer.TheVariants.{Accepted, Refused}
+use Rattle.terms.specs.Answer.{Answer, Accepted, Refused, number_of, by_answer, numbered}
 use Rattle.entry.specs.declared.entry.Entry.{Entry}
 use Rattle.reports.specs.Report.{report_answer, tags_of as tags_in}
 use Rattle.rules.specs.Rule.{rule_answer}
@@ -41,7 +40,6 @@ use Rattle.onepass.proofs.CallLaws.{call-taken, call-number}
 use Rattle.rules.specs.Entries.{entries_of}
 use Rattle.reports.specs.Elements.{levels_of, labels_of}
 use Rattle.numbers.specs.Bits.{bit, bit_at}
-use Rattle.terms.specs.Answer.{number_of, by_answer, numbered}
 use Rattle.terms.proofs.AnswerLaws.{numbered-number}
 
 -- ---- one call

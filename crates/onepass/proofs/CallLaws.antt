@@ -8,10 +8,8 @@ use mathlib.Core.Bool.{Bool, true, false, cond, ◌&&◌}
 use mathlib.Core.List.{List}
 use lib.Dec.{eqb}
 use lib.ListN.{length}
-use Rattle.terms.specs.declared.answer.Answer.{Answer}
-use Rattle.terms.specs.declared.answer.Answer.TheVariants.{Accepted, Refused}
+use Rattle.terms.specs.Answer.{Answer, Accepted, Refused, place_of, count_of, by_answer, numbered}
 use Rattle.entry.specs.declared.entry.Entry.{Entry}
-use Rattle.terms.specs.Answer.{place_of, count_of, by_answer, numbered}
 use Rattle.terms.proofs.AnswerLaws.{Sound, order-sound, numbered-sound, numbered-by}
 use Rattle.grammar.proofs.WhenRule.{rule-answer-sound}
 use Rattle.terms.specs.Limits.{rule_most}

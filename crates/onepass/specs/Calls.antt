@@ -3,7 +3,7 @@
 use Rattle.std.specs.Prelude.{ℕ, cond, List, [], ◌∷◌, ◌++◌, ◌≡◌, eqb}
 use Rattle.reports.specs.Report.{report_answer}
 use Rattle.tag.specs.Tags.{Tag, opens, closes}
-use Rattle.terms.specs.declared.answer.Answer.TheVariants.{Accepted}
+use Rattle.terms.specs.Answer.{Accepted}
 use Rattle.numbers.specs.Bytes.{Bytes}
 use Rattle.grammar.specs.Reports.{bytes_of}
 use Rattle.onepass.specs.Step.{Opened, Closed}

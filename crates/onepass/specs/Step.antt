@@ -4,8 +4,7 @@
 -- refused call that writes.
 -- Laws: proofs/CallLaws.antt, proofs/Only.antt, proofs/Agrees.antt (demand 3). Assumes nothing.
 use Rattle.std.specs.Prelude.{ℕ, ◌≡◌, Bool, false, cond, List}
-use Rattle.terms.specs.Answer.{number_of, place_of, by_answer, in_order, numbered}
-use Rattle.terms.specs.declared.answer.Answer.{Answer}
+use Rattle.terms.specs.Answer.{number_of, place_of, by_answer, in_order, numbered, Answer}
 use Rattle.entry.specs.declared.entry.Entry.{Entry}
 use Rattle.rules.specs.Rule.{rule_answer}
 use Rattle.tag.specs.Tags.{Tag, opens, closes}

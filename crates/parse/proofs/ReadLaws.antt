@@ -8,8 +8,7 @@ use borrow.Author.Tests.{eqb-true, eqb-false, ltb-true, ltb-false}
 use lib.Arith.{lt_of_le-ne}
 use lib.Dec.{eqb, ltb}
 use lib.ListN.{length, take, drop, drop_of_length-le, length-drop, length-take, length-append}
-use Rattle.terms.specs.Answer.{number_of, place_of}
-use Rattle.terms.specs.declared.answer.Answer.TheVariants.{Refused}
+use Rattle.terms.specs.Answer.{number_of, place_of, Refused}
 use Rattle.grammar.specs.When.{Sized}
 use Rattle.paths.specs.Syntax.{Test}
 use Rattle.paths.specs.Spelling.{pieces_t, text_of, Text, StopsAt}

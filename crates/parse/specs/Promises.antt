@@ -6,7 +6,7 @@ use Rattle.std.specs.Prelude.{ℕ, zero, suc, ◌+◌, ◌*◌, ◌≤◌, ◌<�
 use Rattle.paths.specs.Syntax.{Test, Path, Step, GoodT, GoodP, GoodS}
 use Rattle.paths.specs.Spelling.{greater, sign, pieces_t, pieces_p, pieces_s, text_of, Text, StopsAt}
 use Rattle.paths.specs.Translation.{table_of}
-use Rattle.terms.specs.declared.answer.Answer.TheVariants.{Refused}
+use Rattle.terms.specs.Answer.{Refused}
 use Rattle.paths.specs.Answer.{text_most, TextOf, bytes_for, TextGets}
 use Rattle.paths.proofs.Machine.{Expected, test, path, run}
 use Rattle.paths.proofs.Ahead.{wordy_t, wordy_s, ahead}

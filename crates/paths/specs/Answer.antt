@@ -2,9 +2,7 @@
 -- Shuts out: 14 before 13; 9 before 13; a place one byte late; a 65th entry taken; a refused text that writes.
 -- Laws: proofs/Answer.antt (each string gets one answer, and one only; what the order comes to). Assumes nothing.
 use Rattle.std.specs.Prelude.{ℕ, ◌≡◌, cond, List, [], ltb, length}
-use Rattle.terms.specs.Answer.{in_order, where_accepted}
-use Rattle.terms.specs.declared.answer.Answer.{Answer}
-use Rattle.terms.specs.declared.answer.Answer.TheVariants.{Accepted, Refused}
+use Rattle.terms.specs.Answer.{in_order, where_accepted, Answer, Accepted, Refused}
 use Rattle.entry.specs.declared.entry.Entry.{Entry}
 use Rattle.terms.specs.Limits.{entries_most}
 use Rattle.grammar.specs.When.{Sized}

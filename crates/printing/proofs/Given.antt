@@ -8,7 +8,7 @@ use lib.ListN.{length, take, drop}
 use lib.Seq.{take-append_seam}
 use Rattle.numbers.specs.Lists.{over}
 use Rattle.numbers.proofs.Lists.{over_none, over-length, over-is}
-use Rattle.terms.specs.declared.answer.Answer.TheVariants.{Accepted, Refused}
+use Rattle.terms.specs.Answer.{Accepted, Refused}
 use Rattle.marking.specs.Evaluation.{short_of_room}
 use Rattle.text.specs.Rendered.{buffer_size}
 use Rattle.judge.specs.Output.{accepted_printout, text_answer, TakenPut}

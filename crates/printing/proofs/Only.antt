@@ -8,9 +8,7 @@ use mathlib.Core.Logic.{◌⊎◌, inl, inr, ⊎_elim, ◌↔◌}
 use lib.ListN.{length}
 use Rattle.numbers.specs.Lists.{over}
 use Rattle.numbers.proofs.Lists.{over_none}
-use Rattle.terms.specs.Answer.{number_of, place_of, count_of, where_accepted, Accepts}
-use Rattle.terms.specs.declared.answer.Answer.{Answer}
-use Rattle.terms.specs.declared.answer.Answer.TheVariants.{Accepted, Refused}
+use Rattle.terms.specs.Answer.{number_of, place_of, count_of, where_accepted, Accepts, Answer, Accepted, Refused}
 use Rattle.terms.proofs.AnswerLaws.{Sound, refused-not}
 use Rattle.marking.proofs.AnswerLaws.{room-sound}
 use Rattle.text.specs.Rendered.{buffer_size}

@@ -5,8 +5,7 @@
 -- Laws: proofs/Only.antt (one result only; each number exactly when). Assumes nothing.
 use Rattle.std.specs.Prelude.{ℕ, ◌≡◌, List, length}
 use Rattle.numbers.specs.Lists.{over}
-use Rattle.terms.specs.Answer.{number_of, place_of, count_of, where_accepted}
-use Rattle.terms.specs.declared.answer.Answer.{Answer}
+use Rattle.terms.specs.Answer.{number_of, place_of, count_of, where_accepted, Answer}
 use Rattle.marking.specs.Evaluation.{short_of_room}
 use Rattle.judge.specs.Output.{accepted_printout, text_answer}
 use Rattle.printing.specs.declared.export.PrintReply.{PrintReply}

@@ -1,7 +1,7 @@
 // The call as C has it; include/polonezar.h declares it.
 ghost use Rattle.std.specs.Prelude.{◌≡◌, ◌≤◌, length, take};
 ghost use Rattle.numbers.specs.Lists.{over};
-ghost use Rattle.terms.specs.declared.answer.Answer.TheVariants.{Refused};
+ghost use Rattle.terms.specs.Answer.{Refused};
 ghost use Rattle.printing.specs.Given.{print_reply, PrintoutGiven};
 
 use judge::judge::put_taken;

@@ -2,10 +2,9 @@
 -- What a reader answers to C: the answer's number, its place and what it counts, as plain numbers. Document 01, "Numbers given back".
 -- Laws: proofs/Only.antt. Assumes nothing.
 use Rattle.std.specs.Prelude.{ℕ, ◌≡◌, List}
-use Rattle.terms.specs.Answer.{number_of, place_of, count_of}
+use Rattle.terms.specs.Answer.{number_of, place_of, count_of, Answer}
 use Rattle.rules.specs.Rule.{rule_answer}
 use Rattle.reports.specs.Report.{report_answer}
-use Rattle.terms.specs.declared.answer.Answer.{Answer}
 use Rattle.records.specs.declared.export.RuleReply.{RuleReply}
 use Rattle.records.specs.declared.export.ReportReply.{ReportReply}
 

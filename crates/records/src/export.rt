@@ -3,7 +3,6 @@ ghost use Rattle.records.specs.Reply.{RuleRead, ReportRead};
 
 use reports::elements::read_report;
 use rules::table::read_rule;
-use terms::answer::Answer;
 
 // What the rule reader answers: document 01's number, the place, and how many entries.
 #[repr(C)]
@@ -28,16 +27,15 @@ pub struct ReportReply {
 pub extern "C" fn pz_read_rule(rule: &[u8]) -> RuleReply
     ensures { RuleRead rule.now result }
 {
-    let answer = read_rule(rule);
-    match answer {
-        Answer::Accepted(entries) => RuleReply {
+    match read_rule(rule) {
+        Ok(entries) => RuleReply {
             number: 0,
             place: 0,
             entries: entries as u32,
         },
-        Answer::Refused(number, place) => RuleReply {
-            number: number,
-            place: place as u32,
+        Err(refusal) => RuleReply {
+            number: refusal.fault.into(),
+            place: refusal.place as u32,
             entries: 0,
         },
     }
@@ -48,16 +46,15 @@ pub extern "C" fn pz_read_rule(rule: &[u8]) -> RuleReply
 pub extern "C" fn pz_read_report(report: &[u8]) -> ReportReply
     ensures { ReportRead report.now result }
 {
-    let answer = read_report(report);
-    match answer {
-        Answer::Accepted(elements) => ReportReply {
+    match read_report(report) {
+        Ok(elements) => ReportReply {
             number: 0,
             place: 0,
             elements: elements as u32,
         },
-        Answer::Refused(number, place) => ReportReply {
-            number: number,
-            place: place as u32,
+        Err(refusal) => ReportReply {
+            number: refusal.fault.into(),
+            place: refusal.place as u32,
             elements: 0,
         },
     }

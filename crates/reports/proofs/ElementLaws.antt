@@ -6,19 +6,22 @@ use mathlib.Core.Path.{◌≡◌, refl, sym, ap, subst, ◌∙◌}
 use mathlib.Core.Bool.{Bool, true, false, cond, ◌||◌, ◌&&◌}
 use mathlib.Core.List.{List, [], ◌∷◌, ◌++◌, append-nil}
 use lib.ListN.{length, set}
-use Rattle.terms.specs.Answer.{Accepts}
+use Rattle.terms.specs.Answer.{Accepts, Answer, Refused, number_of_fault}
 use Rattle.terms.specs.Frame.{start_of, kind_at}
 use Rattle.tag.specs.Tags.{labels, levels, levels_from, Tag, opens, closes, depth, opened_count, tag_fault, end_of}
-use Rattle.tag.specs.Record.{tag_at, record_fault, tag_taken}
-use Rattle.tag.specs.declared.tag.TakenTag.{TakenTag}
+use Rattle.tag.specs.Record.{tag_at, record_fault}
+use Rattle.terms.specs.declared.refusal.Fault.{Fault}
+use Rattle.std.specs.Prelude.{Ok}
+use Rattle.tag.specs.Taken.{TagTaken, tag_of}
+use Rattle.tag.specs.declared.tag.Tag.{Tag as CodeTag}
+use Rattle.tag.specs.declared.tag.Tag.TheVariants.{Opening, Closing}
+use Rattle.terms.proofs.FaultLaws.{fault-number-some}
 use Rattle.reports.specs.Report.{report_answer, tags_of, tags_before, report_fault, report_stops, report_answer_at, last_record}
-use Rattle.terms.specs.declared.answer.Answer.{Answer}
-use Rattle.terms.specs.declared.answer.Answer.TheVariants.{Refused}
 use borrow.Author.Tests.{lt-ltb, le-ltb}
 use lib.Dec.{ltb, eqb}
 use Rattle.numbers.specs.Bytes.{number_at}
 use Rattle.terms.proofs.Reading.{mid-ended, mid-faulty, stops-not, mid-reached}
-use Rattle.tag.proofs.RecordLaws.{tag-opens, tag-closes, record-sound, taken-number, taken-tag, open-sound, opens-size, closes-size}
+use Rattle.tag.proofs.RecordLaws.{tag-opens, opens-kind, closes-kind, record-sound, open-sound, opens-size, closes-size}
 use Rattle.reports.proofs.ReportLaws.{ReportMid, report-start, fault-is, tags-after, report-next, report-opens, report-open, report-closes, report-ends, report-refuses, report-empty, report-long}
 use Rattle.tag.proofs.TagLaws.{labels_append, levels-append, levels-count, opened-append}
 use Rattle.terms.specs.Limits.{report_most, elements_most}
@@ -28,17 +31,11 @@ use Rattle.numbers.specs.Lists.{listed, over}
 use Rattle.numbers.proofs.Lists.{over_none, over-next}
 use Rattle.terms.proofs.AnswerLaws.{found-accepted, Within, within-either, refused-within, accepted-within, within-size}
 
--- A column of the elements' table after a tag that puts a value behind the others, or puts nothing.
-element-put : (b : Bool) (xs more lent held last : List ℕ) (e v : ℕ) → length xs ≡ e → more ≡ cond b (xs ++ (v ∷ [])) xs
-    → held ≡ over xs lent → last ≡ cond b (set held e v) held → last ≡ over more lent
-element-put true xs more lent held last e v n m p q =
+-- A column with one value more behind the others.
+element-put : (xs more lent held last : List ℕ) (e v : ℕ) → length xs ≡ e → more ≡ xs ++ (v ∷ []) → held ≡ over xs lent → last ≡ set held e v
+    → last ≡ over more lent
+element-put xs more lent held last e v n m p q =
     q ∙ ap (λ (ys : List ℕ). set ys e v) p ∙ over-next xs lent v e n ∙ ap (λ (ys : List ℕ). over ys lent) (sym m)
-element-put false xs more lent held last e v n m p q = q ∙ p ∙ ap (λ (ys : List ℕ). over ys lent) (sym m)
-
--- The value put is read only where it is put.
-put-value : (b : Bool) (held last : List ℕ) (e v n : ℕ) → v ≡ cond b n 0 → last ≡ cond b (set held e v) held → last ≡ cond b (set held e n) held
-put-value true held last e v n p q = q ∙ ap (set held e) p
-put-value false held last e v n p q = q
 
 -- The labels and levels of an accepted report, and of a refused one.
 pub labels-taken : (s : List ℕ) → Accepts (report_answer s) → labels_of s ≡ labels (tags_of s)
@@ -53,6 +50,14 @@ levels-taken s a = found-accepted (report_answer s) (levels (tags_of s)) a
 moved : {s : List ℕ} {i at d e : ℕ} (at' : ℕ) → at ≡ at' → ReportMid s i at d e → ReportMid s i at' d e
 moved {s} {i} {at} {d} {e} at' q m = subst (λ (x : ℕ). ReportMid s i x d e) q m
 
+-- What is known of a tag that the code names and takes.
+module _ (s : List ℕ) (at d e : ℕ) {t : CodeTag} where
+  pub opening-taken : {l : ℕ} → t ≡ Opening l → TagTaken s at d e (Ok t) → (record_fault s at d e ≡ 0) × (opens l ≡ tag_at s at)
+  opening-taken is (f, q) = (f, sym (ap tag_of is) ∙ q)
+
+  pub closing-taken : t ≡ Closing → TagTaken s at d e (Ok t) → (record_fault s at d e ≡ 0) × (closes ≡ tag_at s at)
+  closing-taken is (f, q) = (f, sym (ap tag_of is) ∙ q)
+
 -- Between two turns: the reader's counters, and the columns of the elements opened so far.
 pub record WalkMid (s labels₀ levels₀ labels₁ levels₁ : List ℕ) (i at d e : ℕ) : Type 0 where
   pub mid : ReportMid s i at d e
@@ -65,70 +70,75 @@ module _ (s labels₀ levels₀ : List ℕ) where
   walk_start = record { mid = report-start s; labels_are = sym (over_none labels₀); levels_are = sym (over_none levels₀) }
 
   module _ {labels₁ levels₁ : List ℕ} {i at d e : ℕ} (m : WalkMid s labels₀ levels₀ labels₁ levels₁ i at d e) where
-    module _ (ne : at ≡ length s → ⊥) (f : record_fault s at d e ≡ 0) where
-      -- What an opening or a closing puts behind each column.
-      labels-more : (b : Bool) → eqb (kind_at s at) 1 ≡ b
-          → labels (tags_before s (i + 1)) ≡ cond b (labels (tags_before s i) ++ (number_at s (at + 4) ∷ [])) (labels (tags_before s i))
-      unfolding labels
-      labels-more true k =
-          ap labels (tags-after s m.mid ne f) ∙ labels_append (tags_before s i) (tag_at s at ∷ []) ∙ rw (tag-opens s at k)
-      labels-more false k =
-          ap labels (tags-after s m.mid ne f) ∙ labels_append (tags_before s i) (tag_at s at ∷ [])
-          ∙ rw (tag-closes s at k) (append-nil (labels (tags_before s i)))
-
-      levels-more : (b : Bool) → eqb (kind_at s at) 1 ≡ b
-          → levels (tags_before s (i + 1)) ≡ cond b (levels (tags_before s i) ++ (d ∷ [])) (levels (tags_before s i))
-      unfolding levels_from
-      levels-more true k =
-          ap levels (tags-after s m.mid ne f) ∙ levels-append 0 (tags_before s i) (tag_at s at ∷ [])
-          ∙ rw (tag-opens s at k, m.mid.depth_is)
-      levels-more false k =
-          ap levels (tags-after s m.mid ne f) ∙ levels-append 0 (tags_before s i) (tag_at s at ∷ [])
-          ∙ rw (tag-closes s at k) (append-nil (levels (tags_before s i)))
-
-    -- The tag in hand, taken with no fault.
-    module _ (on : at < length s) (t : TakenTag) (is : t ≡ tag_taken s at d e) (z : t.fault ≡ 0) where
+    module _ (on : at < length s) where
       ne : at ≡ length s → ⊥
       ne q = omega arith
 
-      fine : record_fault s at d e ≡ 0
-      fine = sym (taken-number s at d e t is) ∙ z
+      -- The tag in hand is an opening with no fault.
+      module _ (l : ℕ) (t : (record_fault s at d e ≡ 0) × (opens l ≡ tag_at s at)) where
+        kind-one : eqb (kind_at s at) 1 ≡ true
+        kind-one = opens-kind s at l t.1
 
-      kind-is : (b : Bool) → t.opening ≡ b → eqb (kind_at s at) 1 ≡ b
-      kind-is b o = sym (taken-tag s at d e t is z).0 ∙ o
+        labels-more : labels (tags_before s (i + 1)) ≡ labels (tags_before s i) ++ (l ∷ [])
+        unfolding labels
+        labels-more =
+            ap labels (tags-after s m.mid ne t.0) ∙ labels_append (tags_before s i) (tag_at s at ∷ []) ∙ rw (← t.1)
 
-      -- An opening has 6 bytes.
-      six : t.opening ≡ true → at + 2 + number_at s at ≡ at + 6
-      six o = omega (arith, opens-size s at d e fine (kind-is true o))
+        levels-more : levels (tags_before s (i + 1)) ≡ levels (tags_before s i) ++ (d ∷ [])
+        unfolding levels_from
+        levels-more =
+            ap levels (tags-after s m.mid ne t.0) ∙ levels-append 0 (tags_before s i) (tag_at s at ∷ [])
+            ∙ rw (← t.1, m.mid.depth_is)
 
-      pub opening-within : t.opening ≡ true → at + 6 ≤ length s
-      opening-within o = omega (arith, report-next s m.mid fine, six o)
+        -- It has 6 bytes.
+        six : at + 2 + number_at s at ≡ at + 6
+        six = omega (arith, opens-size s at d e t.0 kind-one)
 
-      -- A closing has 4, and finds an element open.
-      four : t.opening ≡ false → at + 2 + number_at s at ≡ at + 4
-      four o = omega (arith, closes-size s at d e fine (kind-is false o))
+        pub opening-within : at + 6 ≤ length s
+        opening-within = omega (arith, report-next s m.mid t.0, six)
 
-      pub closing-within : t.opening ≡ false → (at + 4 ≤ length s) × (0 < d)
-      closing-within o = (omega (arith, report-next s m.mid fine, four o), report-open s m.mid ne fine (kind-is false o))
-
-      -- One turn: what the tag puts into the columns, and the reader's turn.
-      module _ {labels₂ levels₂ : List ℕ} (p : labels₂ ≡ cond t.opening (set labels₁ e t.label) labels₁) (q : levels₂ ≡ cond t.opening (set levels₁ e d) levels₁) where
-        walk_turn : {at' d' e' : ℕ} → ReportMid s (i + 1) at' d' e' → WalkMid s labels₀ levels₀ labels₂ levels₂ (i + 1) at' d' e'
-        walk_turn next =
-            let k = kind-is t.opening refl in
+        -- One turn: its label and level stand behind the others.
+        pub walk-opens : {labels₂ levels₂ : List ℕ} → labels₂ ≡ set labels₁ e l → levels₂ ≡ set levels₁ e d
+            → WalkMid s labels₀ levels₀ labels₂ levels₂ (i + 1) (at + 6) (d + 1) (e + 1)
+        walk-opens p q =
             record {
-              mid = next;
-              labels_are = element-put t.opening (labels (tags_before s i)) _ labels₀ labels₁ labels₂ e _ m.mid.opened_is (labels-more ne fine t.opening k) m.labels_are
-                  (put-value t.opening labels₁ labels₂ e t.label (number_at s (at + 4)) (taken-tag s at d e t is z).1 p);
-              levels_are = element-put t.opening (levels (tags_before s i)) _ levels₀ levels₁ levels₂ e _ (levels-count 0 (tags_before s i) ∙ m.mid.opened_is)
-                  (levels-more ne fine t.opening k) m.levels_are q;
+              mid = moved (at + 6) six (report-opens s m.mid ne t.0 kind-one);
+              labels_are = element-put (labels (tags_before s i)) _ labels₀ labels₁ _ e _ m.mid.opened_is labels-more m.labels_are p;
+              levels_are = element-put (levels (tags_before s i)) _ levels₀ levels₁ _ e _ (levels-count 0 (tags_before s i) ∙ m.mid.opened_is)
+                  levels-more m.levels_are q;
             }
 
-        pub walk-opens : t.opening ≡ true → WalkMid s labels₀ levels₀ labels₂ levels₂ (i + 1) (at + 6) (d + 1) (e + 1)
-        walk-opens o = walk_turn (moved (at + 6) (six o) (report-opens s m.mid ne fine (kind-is true o)))
+      -- The tag in hand is a closing with no fault.
+      module _ (t : (record_fault s at d e ≡ 0) × (closes ≡ tag_at s at)) where
+        kind-other : eqb (kind_at s at) 1 ≡ false
+        kind-other = closes-kind s at t.1
 
-        pub walk-closes : t.opening ≡ false → WalkMid s labels₀ levels₀ labels₂ levels₂ (i + 1) (at + 4) (d - 1) e
-        walk-closes o = walk_turn (moved (at + 4) (four o) (report-closes s m.mid ne fine (kind-is false o)))
+        labels-same : labels (tags_before s (i + 1)) ≡ labels (tags_before s i)
+        unfolding labels
+        labels-same =
+            ap labels (tags-after s m.mid ne t.0) ∙ labels_append (tags_before s i) (tag_at s at ∷ [])
+            ∙ rw (← t.1) (append-nil (labels (tags_before s i)))
+
+        levels-same : levels (tags_before s (i + 1)) ≡ levels (tags_before s i)
+        unfolding levels_from
+        levels-same =
+            ap levels (tags-after s m.mid ne t.0) ∙ levels-append 0 (tags_before s i) (tag_at s at ∷ [])
+            ∙ rw (← t.1) (append-nil (levels (tags_before s i)))
+
+        -- It has 4 bytes, and finds an element open.
+        four : at + 2 + number_at s at ≡ at + 4
+        four = omega (arith, closes-size s at d e t.0 kind-other)
+
+        pub closing-within : (at + 4 ≤ length s) × (0 < d)
+        closing-within = (omega (arith, report-next s m.mid t.0, four), report-open s m.mid ne t.0 kind-other)
+
+        pub walk-closes : WalkMid s labels₀ levels₀ labels₁ levels₁ (i + 1) (at + 4) (d - 1) e
+        walk-closes =
+            record {
+              mid = moved (at + 4) four (report-closes s m.mid ne t.0 kind-other);
+              labels_are = m.labels_are ∙ ap (λ (xs : List ℕ). over xs labels₀) (sym labels-same);
+              levels_are = m.levels_are ∙ ap (λ (xs : List ℕ). over xs levels₀) (sym levels-same);
+            }
 
     module _ (some : 1 ≤ length s) (few : length s ≤ report_most) where
       read_is : last_record s ≡ i → tags_read s ≡ tags_before s i
@@ -148,16 +158,15 @@ module _ (s labels₀ levels₀ : List ℕ) where
           (a ∙ report-ends s m.mid some few q)
 
       -- .. or at a record that has a fault.
-      pub walk_refused : at < length s → (t : TakenTag) → t ≡ tag_taken s at d e → (t.fault ≡ 0 → ⊥)
-          → ElementsTaken s labels₀ levels₀ (Refused t.fault at) labels₁ levels₁
+      pub walk_refused : at < length s → (f : Fault) → number_of_fault f ≡ record_fault s at d e
+          → ElementsTaken s labels₀ levels₀ (Refused (number_of_fault f) at) labels₁ levels₁
       unfolding report_stops
-      walk_refused on t is n =
-          let f = taken-number s at d e t is in
+      walk_refused on f is =
           let ne : (at ≡ length s → ⊥) = λ q. omega arith in
-          let wrong : (record_fault s at d e ≡ 0 → ⊥) = λ z. n (f ∙ z) in
+          let wrong : (record_fault s at d e ≡ 0 → ⊥) = λ z. fault-number-some f (is ∙ z) in
           stopped
           (mid-faulty s (report_fault s) m.mid.mid ne (λ z. wrong (sym (fault-is s m.mid) ∙ z)) (length s) (omega (arith, m.mid.mid.slow)))
-          (ap (λ (k : ℕ). Refused k at) f ∙ report-refuses s m.mid some few ne wrong)
+          (ap (λ (k : ℕ). Refused k at) is ∙ report-refuses s m.mid some few ne wrong)
 
   -- Where nothing is read the columns stay: a report of no byte, or of too many.
   kept : tags_read s ≡ [] → Refused 5 0 ≡ report_answer s → ElementsTaken s labels₀ levels₀ (Refused 5 0) labels₀ levels₀

@@ -15,7 +15,7 @@ use Rattle.terms.specs.Frame.{kind_at}
 use Rattle.tag.specs.Tags.{Tag, opens, closes, depth_from, depth, labels, opened_count, tag_fault, end_of}
 use Rattle.tag.specs.Record.{tag_at, record_fault}
 use Rattle.reports.specs.Report.{tags_before, report_fault, report_stops, report_answer_at, report_answer}
-use Rattle.terms.specs.declared.answer.Answer.TheVariants.{Refused}
+use Rattle.terms.specs.Answer.{Refused}
 use Rattle.tag.proofs.TagLaws.{depth-append, labels_append}
 use Rattle.tag.proofs.RecordLaws.{tag-opens, tag-closes, record-sound, open-sound, close-sound}
 use Rattle.terms.proofs.Reading.{Mid, mid_start, mid-turn, mid-ended, mid-faulty}

@@ -2,10 +2,9 @@
 -- What an accepted report holds, as the lists of labels and levels that the layers above work on. Document 01, "Records".
 -- Laws: proofs/ElementLaws.antt, and the crate grammar. Assumes nothing.
 use Rattle.std.specs.Prelude.{ℕ, ◌≡◌, cond, List, []}
-use Rattle.terms.specs.Answer.{where_accepted}
+use Rattle.terms.specs.Answer.{where_accepted, Answer}
 use Rattle.reports.specs.Report.{report_answer, tags_of}
 use Rattle.tag.specs.Tags.{Tag, labels, levels}
-use Rattle.terms.specs.declared.answer.Answer.{Answer}
 use Rattle.terms.specs.Limits.{report_most, missized}
 use Rattle.numbers.specs.Lists.{over}
 

@@ -6,8 +6,7 @@ use Rattle.numbers.specs.First.{first}
 use Rattle.terms.specs.Frame.{start_of, stops_at}
 use Rattle.tag.specs.Tags.{Tag, depth, opened_count, end_of}
 use Rattle.tag.specs.Record.{tag_at, record_fault}
-use Rattle.terms.specs.declared.answer.Answer.{Answer}
-use Rattle.terms.specs.declared.answer.Answer.TheVariants.{Refused}
+use Rattle.terms.specs.Answer.{Answer, Refused}
 use Rattle.terms.specs.Limits.{report_most, missized}
 use Rattle.numbers.specs.Lists.{listed}
 

@@ -9,12 +9,14 @@ use lib.ListN.{length}
 use Rattle.numbers.specs.Bytes.{number_at}
 use Rattle.numbers.specs.First.{first}
 use Rattle.terms.specs.Frame.{next_of}
-use Rattle.entry.specs.Entry.{entry_at, taken_at, rule_fault}
+use Rattle.std.specs.Prelude.{Ok}
+use Rattle.entry.specs.Entry.{entry_at, rule_fault}
+use Rattle.entry.specs.Taken.{EntryTaken}
 use Rattle.rules.specs.Rule.{rule_faults, rule_stops, rule_answer_at, rule_answer}
-use Rattle.terms.specs.declared.answer.Answer.TheVariants.{Accepted, Refused}
+use Rattle.terms.specs.Answer.{Accepted, Refused}
 use Rattle.entry.specs.declared.entry.Taken.{Taken}
 use Rattle.terms.proofs.Reading.{Mid, mid-turn, mid-ended, mid-faulty}
-use Rattle.entry.proofs.TakenLaws.{rule-sound, taken-fault, taken_fine}
+use Rattle.entry.proofs.TakenLaws.{rule-sound}
 use Rattle.terms.specs.Limits.{entries_most, rule_most}
 
 -- The turns of the reader's loop.
@@ -40,11 +42,9 @@ module _ (s : List ℕ) where
     pub within : t.next ≤ length s
     pub mid : RuleMid (i + 1) t.next
 
-  pub rule-onward : {i at : ℕ} → RuleMid i at → (at ≡ length s → ⊥) → (t : Taken) → t ≡ taken_at s i at → t.fault ≡ 0 → Onward i at t
+  pub rule-onward : {i at : ℕ} → RuleMid i at → (at ≡ length s → ⊥) → (t : Taken) → EntryTaken s i at (Ok t) → Onward i at t
   unfolding next_of
-  rule-onward {i} {at} m ne t e z =
-      let f : rule_fault s i at ≡ 0 = sym (taken-fault s i at t e) ∙ z in
-      let (entry, next) = taken_fine s i at t e z in
+  rule-onward {i} {at} m ne t (f, entry, next) =
       record {
         few = (rule-sound s i at f).0;
         entry-is = entry;

@@ -5,8 +5,7 @@
 use Rattle.std.specs.Prelude.{ℕ, Bool, cond, List, eqb, length}
 use Rattle.numbers.specs.First.{first}
 use Rattle.terms.specs.Frame.{start_of, stops_at}
-use Rattle.terms.specs.declared.answer.Answer.{Answer}
-use Rattle.terms.specs.declared.answer.Answer.TheVariants.{Accepted, Refused}
+use Rattle.terms.specs.Answer.{Answer, Accepted, Refused}
 use Rattle.entry.specs.Entry.{rule_fault}
 use Rattle.terms.specs.Limits.{rule_most, entries_most, missized}
 

@@ -1,4 +1,6 @@
-// Rules: the walk that checks a whole rule and fills the table of its entries.
+// Rules: the walk that checks a whole rule and shows each of its entries to a visitor, and the table of the
+// entries, which is one.
 #![tactic(auto)]
 
 pub mod table;
+pub mod visit;

@@ -1,61 +1,34 @@
 // The table of a rule's entries, filled in the one walk that checks the rule: a refusal leaves what was
 // read before the fault; the promise says what that is.
-ghost use Rattle.std.specs.Prelude.{◌≡◌, ◌+◌, ◌*◌, ◌<◌, set};
-ghost use Rattle.terms.specs.Limits.{entries_most};
+ghost use Rattle.std.specs.Prelude.{◌≡◌, set};
+ghost use Rattle.terms.specs.Answer.{answered};
 ghost use Rattle.rules.specs.Rule.{rule_answer};
 ghost use Rattle.rules.specs.Entries.{EntriesTaken};
 
-use entry::entry::take_entry;
-use terms::answer::Answer;
-use terms::limits::RULE_MOST;
+use crate::visit::{Visitor, visit_entries};
+use entry::entry::Entry;
+use terms::limits::ENTRIES_MOST;
+use terms::refusal::Refusal;
 
-// The table has three numbers an entry, kind, a and b, one entry after the other.
-pub const ENTRY_PLACES: usize = 192;
+// A table of entries: entry n gets place n.
+impl Visitor for [Entry; ENTRIES_MOST] {
+    ghost then = { set };
 
-// Puts an entry's numbers into the table as entry i.
-fn put_numbers(kind: usize, a: usize, b: usize, i: usize, table: &mut [u16; ENTRY_PLACES])
-    requires { (kind < 65536) × (a < 65536) × (b < 65536) × (i < entries_most) }
-    ensures { table.new ≡ set (set (set table.old (3 * i) kind) (3 * i + 1) a) (3 * i + 2) b }
-{
-    table[3 * i] = kind as u16;
-    table[3 * i + 1] = a as u16;
-    table[3 * i + 2] = b as u16;
+    fn see(&mut self, n: usize, e: Entry) {
+        self[n] = e;
+    }
 }
 
 // Reads a rule, and puts its entries into the lent table: one walk, which checks and fills.
-pub fn read_entries(rule: &[u8], table: &mut [u16; ENTRY_PLACES]) -> Answer
-    ensures { EntriesTaken rule.now table.old result table.new }
+pub fn read_entries(rule: &[u8], table: &mut [Entry; ENTRIES_MOST]) -> Result<usize, Refusal>
+    ensures { EntriesTaken rule.now table.old (answered result) table.new }
 {
-    let empty = rule.len() < 1;
-    if empty {
-        return Answer::Refused(1, 0);
-    }
-    let too_long = RULE_MOST < rule.len();
-    if too_long {
-        return Answer::Refused(1, 0);
-    }
-    let mut at: usize = 0;
-    let mut n: usize = 0;
-    let answer = loop {
-        if at == rule.len() {
-            break Answer::Accepted(n);
-        }
-        let taken = take_entry(rule, n, at);
-        if taken.fault != 0 {
-            break Answer::Refused(taken.fault, at);
-        }
-        let e = taken.entry;
-        put_numbers(e.kind, e.a, e.b, n, table);
-        at = taken.next;
-        n = n + 1;
-    };
-    answer
+    visit_entries(rule, table)
 }
 
-// Reads a rule: accepted with the number of its entries, or refused. The table is not wanted.
-pub fn read_rule(rule: &[u8]) -> Answer
-    ensures { result ≡ rule_answer rule.now }
+// Reads a rule: accepted with the number of its entries, or refused. No table is wanted.
+pub fn read_rule(rule: &[u8]) -> Result<usize, Refusal>
+    ensures { answered result ≡ rule_answer rule.now }
 {
-    let mut table = [0u16; ENTRY_PLACES];
-    read_entries(rule, &mut table)
+    visit_entries(rule, &mut ())
 }

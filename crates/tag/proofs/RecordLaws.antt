@@ -11,8 +11,7 @@ use lib.ListN.{length}
 use Rattle.numbers.specs.Bytes.{number_at}
 use Rattle.terms.specs.Frame.{frame_of, kind_at, broken, broken_at}
 use Rattle.tag.specs.Tags.{Tag, opens, closes, tag_fault}
-use Rattle.tag.specs.Record.{report_length, tag_at, record_fault, tagged, broken_tag, tag_taken}
-use Rattle.tag.specs.declared.tag.TakenTag.{TakenTag}
+use Rattle.tag.specs.Record.{report_length, tag_at, record_fault}
 use Rattle.terms.specs.declared.frame.Frame.{Frame}
 use Rattle.terms.specs.declared.frame.Frame.TheVariants.{Whole, Cut, Garbled}
 use Rattle.terms.proofs.FrameLaws.{Stands, frame-few, frame-unknown, frame-wrong, frame_past, frame-whole, whole-stands}
@@ -28,6 +27,23 @@ module _ (s : List ℕ) (at : ℕ) where
   unfolding tag_at
   tag-closes e = rw e
 
+  -- And the kind by the tag.
+  pub opens-kind : (l : ℕ) → opens l ≡ tag_at s at → eqb (kind_at s at) 1 ≡ true
+  unfolding tag_at
+  opens-kind l = go (eqb (kind_at s at) 1)
+    where
+      go : (b : Bool) → opens l ≡ cond b (opens (number_at s (at + 4))) closes → b ≡ true
+      go true e = refl
+      go false e = cc
+
+  pub closes-kind : closes ≡ tag_at s at → eqb (kind_at s at) 1 ≡ false
+  unfolding tag_at
+  closes-kind = go (eqb (kind_at s at) 1)
+    where
+      go : (b : Bool) → closes ≡ cond b (opens (number_at s (at + 4))) closes → b ≡ false
+      go true e = cc
+      go false e = refl
+
   -- The length of each kind's record.
   pub length-opens : kind_at s at ≡ 1 → report_length (kind_at s at) ≡ 4
   unfolding report_length
@@ -41,21 +57,27 @@ module _ (s : List ℕ) (at : ℕ) where
   unfolding report_length
   length_none k l = rw (ne_eqb (kind_at s at) 1 k, ne_eqb (kind_at s at) 2 l)
 
+  pub opening-there : kind_at s at ≡ 1 → (l : ℕ) → l ≡ number_at s (at + 4) → tag_at s at ≡ opens l
+  opening-there k l q = tag-opens (eq-eqb (kind_at s at) 1 k) ∙ ap opens (sym q)
+
+  pub closing-there : kind_at s at ≡ 2 → tag_at s at ≡ closes
+  closing-there k = tag-closes (ne_eqb (kind_at s at) 1 (λ z. omega arith))
+
   module _ (depth elements : ℕ) where
     -- Fewer than 4 bytes left.
-    pub record-few : length s < at + 4 → broken_tag ≡ tag_taken s at depth elements
-    unfolding tag_taken
+    pub record-few : length s < at + 4 → 6 ≡ record_fault s at depth elements
+    unfolding record_fault
     record-few h = simp (frame-few s at (report_length (kind_at s at)) h)
 
     -- The record is not whole.
-    record-broken : (f : Frame) → f ≡ frame_of s at (report_length (kind_at s at)) → broken f ≡ true → broken_tag ≡ tag_taken s at depth elements
-    unfolding tag_taken
+    record-broken : (f : Frame) → f ≡ frame_of s at (report_length (kind_at s at)) → broken f ≡ true → 6 ≡ record_fault s at depth elements
+    unfolding record_fault
     record-broken f e b = simp (sym e, b)
 
     -- The record is whole: its tag decides.
     record-whole : Whole ≡ frame_of s at (report_length (kind_at s at))
-        → tagged (tag_fault depth elements (eqb depth 0 && ltb 0 elements) (tag_at s at)) (tag_at s at) ≡ tag_taken s at depth elements
-    unfolding tag_taken record_fault
+        → tag_fault depth elements (eqb depth 0 && ltb 0 elements) (tag_at s at) ≡ record_fault s at depth elements
+    unfolding record_fault
     record-whole e = rw (← e)
 
     -- The same by the length that the record's kind has: no such kind, another length, past the end, none of these.
@@ -63,36 +85,30 @@ module _ (s : List ℕ) (at : ℕ) where
       frame-by : (f : Frame) → frame_of s at n ≡ f → f ≡ frame_of s at (report_length (kind_at s at))
       frame-by f e = sym (ap (frame_of s at) is ∙ e)
 
-      pub record-unknown : n ≡ 0 → broken_tag ≡ tag_taken s at depth elements
+      pub record-unknown : n ≡ 0 → 6 ≡ record_fault s at depth elements
       record-unknown z = record-broken Garbled (frame-by Garbled (frame-unknown s at n room z)) refl
 
-      pub record-wrong : (n ≡ 0 → ⊥) → (number_at s at ≡ n → ⊥) → broken_tag ≡ tag_taken s at depth elements
+      pub record-wrong : (n ≡ 0 → ⊥) → (number_at s at ≡ n → ⊥) → 6 ≡ record_fault s at depth elements
       record-wrong z e = record-broken Garbled (frame-by Garbled (frame-wrong s at n room z e)) refl
 
-      pub record-past : (n ≡ 0 → ⊥) → number_at s at ≡ n → length s < at + 2 + n → broken_tag ≡ tag_taken s at depth elements
+      pub record-past : (n ≡ 0 → ⊥) → number_at s at ≡ n → length s < at + 2 + n → 6 ≡ record_fault s at depth elements
       record-past z e p = record-broken Cut (frame-by Cut (frame_past s at n room z e p)) refl
 
       record-fits : (n ≡ 0 → ⊥) → number_at s at ≡ n → at + 2 + n ≤ length s → (t : Tag) → tag_at s at ≡ t
-          → tagged (tag_fault depth elements (eqb depth 0 && ltb 0 elements) t) t ≡ tag_taken s at depth elements
+          → tag_fault depth elements (eqb depth 0 && ltb 0 elements) t ≡ record_fault s at depth elements
       record-fits z e p t q =
-          ap (λ (u : Tag). tagged (tag_fault depth elements (eqb depth 0 && ltb 0 elements) u) u) (sym q)
+          ap (λ (u : Tag). tag_fault depth elements (eqb depth 0 && ltb 0 elements) u) (sym q)
           ∙ record-whole (frame-by Whole (frame-whole s at n room z e p))
 
     -- A whole opening, and a whole closing: what the tag is answered.
-    pub record-opens : kind_at s at ≡ 1 → at + 4 ≤ length s → number_at s at ≡ 4 → at + 6 ≤ length s → (l r : ℕ) → l ≡ number_at s (at + 4)
-        → r ≡ tag_fault depth elements (eqb depth 0 && ltb 0 elements) (opens l)
-        → record { fault = r; opening = true; label = l } ≡ tag_taken s at depth elements
-    unfolding tagged
-    record-opens k room e p l r q f =
-        ap (λ (n : ℕ). tagged n (opens l)) f
-        ∙ record-fits 4 (length-opens k) room (λ z. omega arith) e (omega arith) (opens l) (tag-opens (eq-eqb (kind_at s at) 1 k) ∙ ap opens (sym q))
+    pub record-opens : kind_at s at ≡ 1 → at + 4 ≤ length s → number_at s at ≡ 4 → at + 6 ≤ length s → (l : ℕ) → l ≡ number_at s (at + 4)
+        → tag_fault depth elements (eqb depth 0 && ltb 0 elements) (opens l) ≡ record_fault s at depth elements
+    record-opens k room e p l q =
+        record-fits 4 (length-opens k) room (λ z. omega arith) e (omega arith) (opens l) (opening-there k l q)
 
-    pub record-closes : kind_at s at ≡ 2 → at + 4 ≤ length s → number_at s at ≡ 2 → (r : ℕ) → r ≡ tag_fault depth 0 false closes
-        → record { fault = r; opening = false; label = 0 } ≡ tag_taken s at depth elements
-    unfolding tagged tag_fault
-    record-closes k room e r f =
-        ap (λ (n : ℕ). tagged n closes) f
-        ∙ record-fits 2 (length-closes k) room (λ z. omega arith) e (omega arith) closes (tag-closes (ne_eqb (kind_at s at) 1 (λ z. omega arith)))
+    pub record-closes : kind_at s at ≡ 2 → at + 4 ≤ length s → number_at s at ≡ 2 → tag_fault depth 0 false closes ≡ record_fault s at depth elements
+    unfolding tag_fault
+    record-closes k room e = record-fits 2 (length-closes k) room (λ z. omega arith) e (omega arith) closes (closing-there k)
 
     -- A record with no fault is whole, and its tag has none.
     pub record-sound : record_fault s at depth elements ≡ 0
@@ -106,31 +122,6 @@ module _ (s : List ℕ) (at : ℕ) where
         go Whole q z = (whole-stands s at (report_length (kind_at s at)) q, z)
         go Cut q z = absurd (omega arith)
         go Garbled q z = absurd (omega arith)
-
-    module _ (t : TakenTag) (is : t ≡ tag_taken s at depth elements) where
-      -- The number is the record's.
-      pub taken-number : t.fault ≡ record_fault s at depth elements
-      unfolding tag_taken record_fault tagged
-      taken-number = ap (λ (x : TakenTag). x.fault) is ∙ go (broken_at report_length s at) (tag_at s at)
-        where
-          go : (b : Bool) (u : Tag) → (cond b broken_tag (tagged (cond b 6 (tag_fault depth elements (eqb depth 0 && ltb 0 elements) u)) u)).fault
-              ≡ cond b 6 (tag_fault depth elements (eqb depth 0 && ltb 0 elements) u)
-          go true u = refl
-          go false (opens l) = refl
-          go false closes = refl
-
-      -- Without one, which tag it is goes by the kind, and an opening has its label.
-      pub taken-tag : t.fault ≡ 0 → (t.opening ≡ eqb (kind_at s at) 1) × (t.label ≡ cond t.opening (number_at s (at + 4)) 0)
-      unfolding tag_taken record_fault tagged tag_at
-      taken-tag z = go (frame_of s at (report_length (kind_at s at))) (eqb (kind_at s at) 1) t is z
-        where
-          go : (f : Frame) (k : Bool) (x : TakenTag)
-              → x ≡ cond (broken f) broken_tag (tagged (cond (broken f) 6 (tag_fault depth elements (eqb depth 0 && ltb 0 elements) (cond k (opens (number_at s (at + 4))) closes))) (cond k (opens (number_at s (at + 4))) closes))
-              → x.fault ≡ 0 → (x.opening ≡ k) × (x.label ≡ cond x.opening (number_at s (at + 4)) 0)
-          go Whole true x e z = rw e (refl, refl)
-          go Whole false x e z = rw e (refl, refl)
-          go Cut k x e z = absurd (omega (arith, ap (λ (y : TakenTag). y.fault) e))
-          go Garbled k x e z = absurd (omega (arith, ap (λ (y : TakenTag). y.fault) e))
 
 -- An opening with no fault stays within the limits; a closing with none finds an element open.
 pub open-sound : (d e l : ℕ) (c : Bool) → tag_fault d e c (opens l) ≡ 0 → (d < levels_most) × (e < elements_most)

@@ -6,7 +6,6 @@ use Rattle.std.specs.Prelude.{ℕ, ◌+◌, true, false, cond, ◌&&◌, List, l
 use Rattle.numbers.specs.Bytes.{number_at}
 use Rattle.terms.specs.Frame.{kind_at, broken_at}
 use Rattle.tag.specs.Tags.{Tag, opens, closes, tag_fault}
-use Rattle.tag.specs.declared.tag.TakenTag.{TakenTag}
 
 -- The length of a report record of each kind; 0 for a number that is no kind.
 unfoldable pub report_length : ℕ → ℕ
@@ -24,17 +23,3 @@ unfoldable pub record_fault : List ℕ → ℕ → ℕ → ℕ → ℕ
 record_fault s at open_now opened_so_far =
     cond (broken_at report_length s at) 6
     (tag_fault open_now opened_so_far (eqb open_now 0 && ltb 0 opened_so_far) (tag_at s at))
-
--- A tag with the number that it gets: whether it opens an element, and the label that it names, 0 where it names none.
-unfoldable pub tagged : ℕ → Tag → TakenTag
-tagged number (opens label) = record { fault = number; opening = true; label = label }
-tagged number closes = record { fault = number; opening = false; label = 0 }
-
--- A record that is not whole has row 6's number and is no opening.
-abbrev pub broken_tag : TakenTag
-broken_tag = record { fault = 6; opening = false; label = 0 }
-
--- What the record at an offset is taken for: its number, with the tag that stands there where the record is whole.
-unfoldable pub tag_taken : List ℕ → ℕ → ℕ → ℕ → TakenTag
-tag_taken s at open_now opened_so_far =
-    cond (broken_at report_length s at) broken_tag (tagged (record_fault s at open_now opened_so_far) (tag_at s at))

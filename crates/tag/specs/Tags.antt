@@ -2,8 +2,7 @@
 -- opens an element, one of kind 2 closes the innermost open one; elements are numbered in order of opening; the root is at level 0.
 -- Laws: proofs/TagLaws.antt. Assumes nothing.
 use Rattle.std.specs.Prelude.{ℕ, suc, pred, Bool, cond, ◌||◌, List, [], ◌∷◌, leb, eqb, length}
-use Rattle.terms.specs.declared.answer.Answer.{Answer}
-use Rattle.terms.specs.declared.answer.Answer.TheVariants.{Accepted, Refused}
+use Rattle.terms.specs.Answer.{Answer, Accepted, Refused}
 use Rattle.terms.specs.Limits.{elements_most, levels_most, outside}
 
 -- A tag opens an element with a label, or closes the innermost open element.

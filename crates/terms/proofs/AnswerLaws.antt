@@ -4,9 +4,7 @@ use native.Mathlib.Omega.{arith}
 use mathlib.Core.Path.{◌≡◌, refl, sym, subst}
 use mathlib.Core.Bool.{Bool, true, false, cond, ◌||◌}
 use mathlib.Core.List.{List}
-use Rattle.terms.specs.Answer.{number_of, place_of, count_of, by_answer, where_accepted, in_order, numbered, Accepts}
-use Rattle.terms.specs.declared.answer.Answer.{Answer}
-use Rattle.terms.specs.declared.answer.Answer.TheVariants.{Accepted, Refused}
+use Rattle.terms.specs.Answer.{number_of, place_of, count_of, by_answer, where_accepted, in_order, numbered, Accepts, Answer, Accepted, Refused}
 use borrow.Author.Tests.{ltb-false, eqb-true, eqb-false, ne_eqb}
 use lib.Dec.{ltb, eqb}
 

@@ -2,10 +2,17 @@
 -- The cases of a reader's answer, with the paper's number and values of each. Document 01, "Numbers given back": number 0 is
 -- accepted; the place is 0 and the count is the entries or elements there; on refusal the count is 0. Answers are put in the order in
 -- which the tables are asked by `in_order`, and every promise says its number and place by `number_of` and `place_of` of the whole.
--- Laws: proofs/AnswerLaws.antt. Assumes nothing.
-use Rattle.std.specs.Prelude.{ℕ, cond, List, [], eqb}
-use Rattle.terms.specs.declared.answer.Answer.{Answer}
-use Rattle.terms.specs.declared.answer.Answer.TheVariants.{Accepted, Refused}
+-- The code answers by a Result with an error of its own type: `answered` says which of these answers it is.
+-- Laws: proofs/AnswerLaws.antt, proofs/FaultLaws.antt. Assumes nothing.
+use Rattle.std.specs.Prelude.{ℕ, cond, List, [], eqb, Result, Ok, Err}
+use Rattle.terms.specs.declared.refusal.Fault.{Fault}
+use Rattle.terms.specs.declared.refusal.Fault.TheVariants.{RuleSize, RuleRecord, RuleNumbers, RuleEntries, ReportSize, ReportRecord, Nesting, ReportLimits, Room, LooksAhead, State, Tally, Text, TextEntries}
+use Rattle.terms.specs.declared.refusal.Refusal.{Refusal}
+
+-- A string is accepted, with so many entries or elements, or refused with a number of the document at a place.
+pub data Answer : Type 0 where
+  Accepted : (count : ℕ) → Answer
+  Refused : (number place : ℕ) → Answer
 
 abbrev pub number_of : Answer → ℕ
 number_of (Accepted n) = 0
@@ -40,3 +47,32 @@ numbered number count = cond (eqb number 0) (Accepted count) (Refused number 0)
 abbrev pub Accepts : Answer → Type 0
 Accepts (Accepted n) = Unit {0}
 Accepts (Refused number place) = ⊥
+
+-- ---- what the code answers
+
+-- The number of each fault that the code names.
+unfoldable pub number_of_fault : Fault → ℕ
+number_of_fault RuleSize = 1
+number_of_fault RuleRecord = 2
+number_of_fault RuleNumbers = 3
+number_of_fault RuleEntries = 4
+number_of_fault ReportSize = 5
+number_of_fault ReportRecord = 6
+number_of_fault Nesting = 7
+number_of_fault ReportLimits = 8
+number_of_fault Room = 9
+number_of_fault LooksAhead = 10
+number_of_fault State = 11
+number_of_fault Tally = 12
+number_of_fault Text = 13
+number_of_fault TextEntries = 14
+
+-- What a Result of a reader answers.
+abbrev pub answered : Result ℕ Refusal → Answer
+answered (Ok n) = Accepted n
+answered (Err r) = Refused (number_of_fault r.fault) r.place
+
+-- The number of what has a fault or none; 0 where it has none.
+abbrev pub fault_number : {A : Type 0} → Result A Fault → ℕ
+fault_number (Ok x) = 0
+fault_number (Err f) = number_of_fault f

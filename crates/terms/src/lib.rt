@@ -2,7 +2,8 @@
 // records with what each means, and whether one record stands whole at one offset.
 #![tactic(auto)]
 
-pub mod answer;
 pub mod frame;
 pub mod kind;
 pub mod limits;
+mod number;
+pub mod refusal;

@@ -5,8 +5,7 @@
 -- Laws: proofs/Answered.antt (one result only; each number exactly when). Assumes nothing.
 use Rattle.std.specs.Prelude.{ℕ, ◌≡◌, List, length}
 use Rattle.numbers.specs.Lists.{over}
-use Rattle.terms.specs.Answer.{number_of, place_of, where_accepted}
-use Rattle.terms.specs.declared.answer.Answer.{Answer}
+use Rattle.terms.specs.Answer.{number_of, place_of, where_accepted, Answer}
 use Rattle.entry.specs.declared.entry.Entry.{Entry}
 use Rattle.grammar.specs.Rules.{rule_bytes}
 use Rattle.paths.specs.Answer.{TextGets, path_outcome, bytes_given}

@@ -1,6 +1,6 @@
 // The call as C has it; include/polonezar.h declares it.
 ghost use Rattle.std.specs.Prelude.{◌≡◌, []};
-ghost use Rattle.terms.specs.declared.answer.Answer.TheVariants.{Refused};
+ghost use Rattle.terms.specs.Answer.{Refused};
 ghost use Rattle.typing.specs.Typed.{path_reply, Typed};
 
 use crate::write::write_rule;

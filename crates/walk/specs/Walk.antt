@@ -4,7 +4,7 @@
 -- Shuts out: an entry that looks ahead and is not seen; kinds 11 and 13 one step back only.
 -- Laws: proofs/WalkLaws.antt, proofs/Only.antt. Assumes nothing.
 use Rattle.std.specs.Prelude.{ℕ, ◌≡◌, Bool, false, not, ◌||◌, List, [], ◌∷◌, length}
-use Rattle.terms.specs.declared.answer.Answer.TheVariants.{Refused}
+use Rattle.terms.specs.Answer.{Refused}
 use Rattle.entry.specs.declared.entry.Entry.{Entry}
 use Rattle.terms.specs.Kinds.{looks_back}
 use Rattle.rules.specs.Rule.{rule_answer}

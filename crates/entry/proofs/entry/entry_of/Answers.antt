@@ -12,5 +12,4 @@ number_where-requires-2 c = λ e. omega (arith, leb-true 2 c.args.row.arguments 
 
 pub returns : goal.returns
 unfolding entry_of
-returns c =
-    (cc, c.number_at.ensures.1, c.number_where.ensures.1, c.number_where-2.ensures.1)
+returns c = cc

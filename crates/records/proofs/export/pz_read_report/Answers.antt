@@ -11,19 +11,19 @@ overflow_cast-result c =
     omega (
       arith,
       (report-small c.args.report.now).count_within,
-      ap count_of (sym c.in-Accepted.is ∙ c.read_report-answer.ensures),
+      ap count_of (c.in-Ok.ensures),
     )
 
-pub overflow_cast-result-in-Refused : goal.overflow_cast-result-in-Refused
-overflow_cast-result-in-Refused c =
+pub overflow_cast-result-in-Err : goal.overflow_cast-result-in-Err
+overflow_cast-result-in-Err c =
     omega (
       arith,
       (report-small c.args.report.now).place_in,
-      ap place_of (sym c.in-Refused.is ∙ c.read_report-answer.ensures),
+      ap place_of (c.in-Err.ensures),
     )
 
-pub returns-in-Accepted : goal.returns-in-Accepted
-returns-in-Accepted c = ap report_reply (sym c.in-Accepted.is ∙ c.read_report-answer.ensures)
+pub returns-in-Ok : goal.returns-in-Ok
+returns-in-Ok c = ap report_reply (c.in-Ok.ensures)
 
-pub returns-in-Refused : goal.returns-in-Refused
-returns-in-Refused c = ap report_reply (sym c.in-Refused.is ∙ c.read_report-answer.ensures)
+pub returns-in-Err : goal.returns-in-Err
+returns-in-Err c = rw c.into.ensures (ap report_reply c.in-Err.ensures)

@@ -1,20 +1,28 @@
 -- `take_opening`: another length, past the end, or the tag decides. Assumes nothing.
+use Rattle.std.proofs.Common.{rules}
 use native.Mathlib.Omega.{arith}
 use mathlib.Core.Path.{sym, ◌∙◌}
-use Rattle.tag.proofs.RecordLaws.{length-opens, record-wrong, record-past, record-opens}
+use Rattle.terms.specs.Answer.{number_of_fault}
+use Rattle.tag.proofs.RecordLaws.{length-opens, opening-there, record-wrong, record-past, record-opens}
 use Rattle.tag.proofs.tag.take_opening.Goals as goal
 
 pub returns-then-other_length : goal.returns-then-other_length
+unfolding number_of_fault
 returns-then-other_length c =
-    let (b, small) = c.broken_tag.ensures in
-    (b ∙ record-wrong _ _ _ _ 4 (length-opens _ _ c.requires.of_kind) c.requires.at_in_bounds (λ z. omega arith) (λ e. c.if-other_length.true (c.number_at-other_length.ensures.0 ∙ e)), small)
+    record-wrong _ _ _ _ 4 (length-opens _ _ c.requires.of_kind) c.requires.at_in_bounds (λ z. omega arith) (λ e. c.if-other_length.true (c.number_at-other_length.ensures ∙ e))
 
 pub returns-then-s-at-lt6 : goal.returns-then-s-at-lt6
+unfolding number_of_fault
 returns-then-s-at-lt6 c =
-    let (b, small) = c.broken_tag-then-s-at-lt6.ensures in
-    (b ∙ record-past _ _ _ _ 4 (length-opens _ _ c.requires.of_kind) c.requires.at_in_bounds (λ z. omega arith) (sym c.number_at-other_length.ensures.0 ∙ c.if-other_length.false) (omega arith), small)
+    record-past _ _ _ _ 4 (length-opens _ _ c.requires.of_kind) c.requires.at_in_bounds (λ z. omega arith) (sym c.number_at-other_length.ensures ∙ c.if-other_length.false) (omega arith)
+
+pub returns-in_err-open_fault : goal.returns-in_err-open_fault
+returns-in_err-open_fault c =
+    let e = c.in_err-open_fault.ensures ∙ record-opens _ _ _ _ c.requires.of_kind c.requires.at_in_bounds (sym c.number_at-other_length.ensures ∙ c.if-other_length.false) (omega arith) _ c.number_at-label.ensures in
+    search rules
 
 pub returns : goal.returns
-returns c =
-    let n = c.number_at-label.ensures in
-    (record-opens _ _ _ _ c.requires.of_kind c.requires.at_in_bounds (sym c.number_at-other_length.ensures.0 ∙ c.if-other_length.false) (omega arith) _ _ n.0 c.open_fault.ensures, n.1)
+returns c = (
+  sym (c.in_ok-open_fault.ensures ∙ record-opens _ _ _ _ c.requires.of_kind c.requires.at_in_bounds (sym c.number_at-other_length.ensures ∙ c.if-other_length.false) (omega arith) _ c.number_at-label.ensures),
+  sym (opening-there _ _ c.requires.of_kind _ c.number_at-label.ensures),
+)
