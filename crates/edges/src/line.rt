@@ -1,119 +1,66 @@
 // From a line to the bytes of its rule and its report, one character after the other.
-ghost use Rattle.std.specs.Prelude.{◌≤◌, ◌<◌, IfOk};
-ghost use Rattle.edges.specs.Line.{Sound};
+ghost use Rattle.std.specs.Prelude.{◌≤◌, ◌<◌};
 
 use crate::answer::{put_answer, put_byte, put_unread};
 use std::io;
 
-// Where in a line a character stands; UNREAD from the first one on that cannot be read.
-const START: usize = 0;
+// How many bytes a line may spell.
+pub(crate) const LINE_BYTES: usize = 65536;
 
-const NAME: usize = 1;
-
-const UNREAD: usize = 2;
-
-const RULE: usize = 3;
-
-const REPORT: usize = 4;
-
-const WORDS: usize = 5;
-
-// In the place of a number: no digit yet, or more than two bytes hold.
-pub(crate) const NONE: u32 = 65536;
-
-const TOO_LARGE: u32 = 65537;
-
-// What is known of a line: the number that is being read, how often its record is put and where that
-// begins, where the rule ends, and how many bytes are spelt. The first two of them are the rule's
-// length, so that all are an input of the program.
-#[derive(Clone, Copy)]
-pub struct Line {
-    pub part: usize,
-    pub number: u32,
-    pub times: u32,
-    pub start: usize,
-    pub rule: usize,
-    pub size: usize,
+// Where in a line a character stands; `Unread` from the first one on that cannot be read.
+#[derive(Clone, Copy, PartialEq, Eq)]
+enum Part {
+    Start,
+    Name,
+    Unread,
+    Rule,
+    Report,
+    Words,
 }
 
-// A line in which a record begins.
-fn begun(part: usize, rule: usize, size: usize) -> Line
-    requires { (2 ≤ rule) × (rule ≤ size) × (size ≤ 65536) }
-    ensures { Sound result }
-{
-    Line {
-        part,
-        number: NONE,
-        times: 1,
-        start: size,
-        rule,
-        size,
+// A number that is read digit by digit.
+#[derive(Clone, Copy, PartialEq, Eq)]
+pub(crate) enum Number {
+    Missing,
+    Read(u16),
+    TooLarge,
+}
+
+impl Number {
+    // One digit more.
+    fn with(self, digit: u8) -> Number {
+        match self {
+            Number::Missing => Number::Read(digit as u16),
+            Number::Read(n) => match u16::try_from(10 * n as u32 + digit as u32) {
+                Ok(longer) => Number::Read(longer),
+                Err(_) => Number::TooLarge,
+            },
+            Number::TooLarge => Number::TooLarge,
+        }
     }
-}
 
-// A line of which nothing is spelt but the two bytes of the rule's length.
-fn empty_line(part: usize) -> Line
-    ensures { Sound result }
-{
-    begun(part, 2, 2)
-}
-
-// A character of the name; a colon ends it.
-fn with_name(c: u8) -> Line
-    ensures { Sound result }
-{
-    let part = if c == b':' { RULE } else { NAME };
-    empty_line(part)
-}
-
-// A number with one digit more.
-fn longer(number: u32, digit: u8) -> u32 {
-    if number == NONE {
-        return digit as u32;
+    // How often that is; more often than there is room for where it is none, or too large.
+    fn times(self) -> usize
+        ensures { result ≤ 65536 }
+    {
+        match self {
+            Number::Read(n) => n as usize,
+            _ => LINE_BYTES,
+        }
     }
-    let n = 10 * number as u64 + digit as u64;
-    if n < 65536 { n as u32 } else { TOO_LARGE }
 }
 
 // Puts a number as two bytes, the low one first.
-fn put_number(number: usize, bytes: &mut [u8; 65536], at: usize)
+fn put_number(number: u16, bytes: &mut [u8; LINE_BYTES], at: usize)
     requires { at < 65535 }
 {
-    bytes[at] = (number % 256) as u8;
-    bytes[at + 1] = (number / 256 % 256) as u8;
-}
-
-// How many bytes a number takes; more than there is room for where it is none of a record: too large,
-// or the number of words.
-fn width(number: u32, part: usize) -> usize
-    ensures { (2 ≤ result) × (result ≤ 65537) }
-{
-    if number == TOO_LARGE {
-        return 65537;
-    }
-    if part == WORDS { 65537 } else { 2 }
-}
-
-// The number, if there is one, is the record's.
-fn with_number(mut line: Line, bytes: &mut [u8; 65536]) -> Line
-    requires { Sound line }
-    ensures { Sound result }
-{
-    if line.number == NONE {
-        return line;
-    }
-    let end = line.size + width(line.number, line.part);
-    if 65536 < end {
-        return empty_line(UNREAD);
-    }
-    put_number(line.number as usize, bytes, line.size);
-    line.number = NONE;
-    line.size = end;
-    line
+    let [low, high] = number.to_le_bytes();
+    bytes[at] = low;
+    bytes[at + 1] = high;
 }
 
 // Puts so many bytes again, from where they end up to another index.
-fn repeat(bytes: &mut [u8; 65536], count: usize, from: usize, end: usize)
+fn repeat(bytes: &mut [u8; LINE_BYTES], count: usize, from: usize, end: usize)
     requires { (count ≤ from) × (end ≤ 65536) }
 {
     for i in from..end {
@@ -121,93 +68,145 @@ fn repeat(bytes: &mut [u8; 65536], count: usize, from: usize, end: usize)
     }
 }
 
-// The record ends, and is put as often as was said.
-fn with_record(line: Line, bytes: &mut [u8; 65536]) -> Line
-    requires { Sound line }
-    ensures { Sound result }
-{
-    let whole = with_number(line, bytes);
-    let count = whole.size - whole.start;
-    let end = whole.start + whole.times as usize * count;
-    if 65536 < end {
-        return empty_line(UNREAD);
-    }
-    repeat(bytes, count, whole.size, end);
-    begun(whole.part, whole.rule, end)
+// What is known of a line: the bytes that it spells, the number that is being read, how often its record
+// is put and where that begins, where the rule ends, and how many bytes are spelt. The first two of them
+// are the rule's length, so that all are an input of the program.
+#[derive(Drop)]
+pub(crate) struct Line {
+    pub(crate) bytes: [u8; LINE_BYTES],
+    part: Part,
+    pub(crate) number: Number,
+    times: Number,
+    start: usize,
+    pub(crate) rule: usize,
+    pub(crate) size: usize,
+    ghost rule_low: { 2 ≤ rule },
+    ghost rule_first: { rule ≤ start },
+    ghost start_first: { start ≤ size },
+    ghost size_fits: { size ≤ 65536 },
 }
 
-// The rule ends, or the report.
-fn with_part(line: Line, bytes: &mut [u8; 65536]) -> Line
-    requires { Sound line }
-    ensures { Sound result }
-{
-    let whole = with_record(line, bytes);
-    if whole.part == RULE {
-        put_number(whole.size - 2, bytes, 0);
-        return begun(REPORT, whole.size, whole.size);
-    }
-    if whole.part == REPORT {
-        return begun(WORDS, whole.rule, whole.size);
-    }
-    empty_line(UNREAD)
-}
-
-// A character behind the name. A star says that the number is how often its record is put.
-fn with_sign(mut line: Line, c: u8, bytes: &mut [u8; 65536]) -> Line
-    requires { Sound line }
-    ensures { Sound result }
-{
-    match c {
-        b'0'..=b'9' => {
-            line.number = longer(line.number, c - b'0');
-            line
+impl Line {
+    // A line of which no character is read.
+    pub(crate) fn new() -> Line {
+        Line {
+            bytes: [0u8; LINE_BYTES],
+            part: Part::Start,
+            number: Number::Missing,
+            times: Number::Read(1),
+            start: 2,
+            rule: 2,
+            size: 2,
         }
-        b'*' => {
-            line.times = line.number;
-            line.number = NONE;
-            line
-        }
-        b' ' => with_number(line, bytes),
-        b',' => with_record(line, bytes),
-        b'/' => with_part(line, bytes),
-        _ => empty_line(UNREAD),
     }
-}
 
-// Answers a line at its end; nothing to a blank one.
-fn end(rt: &impl Print, line: Line, bytes: &[u8; 65536]) -> io::Result<()>
-    requires { Sound line }
-{
-    if line.part == WORDS {
-        put_answer(rt, bytes, line.rule, line.size, line.number)
-    } else if line.part != START {
-        put_unread(rt)
-    } else {
+    // Nothing is spelt but the two bytes of the rule's length.
+    fn empty(&mut self, part: Part) {
+        self.part = part;
+        self.number = Number::Missing;
+        self.times = Number::Read(1);
+        self.rule = 2;
+        self.start = 2;
+        self.size = 2;
+    }
+
+    // A record begins.
+    fn begin(&mut self) {
+        self.number = Number::Missing;
+        self.times = Number::Read(1);
+        self.start = self.size;
+    }
+
+    // The number, if there is one, is the record's. There is none too large, and none in a record where the
+    // words are told.
+    fn end_number(&mut self) {
+        match self.number {
+            Number::Missing => {}
+            Number::Read(n) if self.part != Part::Words && self.size + 2 <= LINE_BYTES => {
+                put_number(n, &mut self.bytes, self.size);
+                self.number = Number::Missing;
+                self.size += 2;
+            }
+            _ => self.empty(Part::Unread),
+        }
+    }
+
+    // The record ends, and is put as often as was said.
+    fn end_record(&mut self) {
+        self.end_number();
+        let count = self.size - self.start;
+        let end = self.start + self.times.times() * count;
+        if LINE_BYTES < end {
+            self.empty(Part::Unread);
+            return;
+        }
+        repeat(&mut self.bytes, count, self.size, end);
+        self.size = end;
+        self.begin();
+    }
+
+    // The rule ends, or the report.
+    fn end_part(&mut self) {
+        self.end_record();
+        match self.part {
+            Part::Rule => {
+                put_number((self.size - 2) as u16, &mut self.bytes, 0);
+                self.part = Part::Report;
+                self.start = self.size;
+                self.rule = self.size;
+            }
+            Part::Report => self.part = Part::Words,
+            _ => self.empty(Part::Unread),
+        }
+    }
+
+    // A character behind the name. A star says that the number is how often its record is put.
+    fn sign(&mut self, c: u8) {
+        match c {
+            b'0'..=b'9' => self.number = self.number.with(c - b'0'),
+            b'*' => {
+                self.times = self.number;
+                self.number = Number::Missing;
+            }
+            b' ' => self.end_number(),
+            b',' => self.end_record(),
+            b'/' => self.end_part(),
+            _ => self.empty(Part::Unread),
+        }
+    }
+
+    // Answers the line at its end; nothing to a blank one.
+    fn end(&self, rt: &impl Print) -> io::Result<()> {
+        match self.part {
+            Part::Words => put_answer(rt, self),
+            Part::Start => Ok(()),
+            _ => put_unread(rt),
+        }
+    }
+
+    // One character more. The name is written as it is; a colon ends it.
+    fn read(&mut self, rt: &impl Print, c: u8) -> io::Result<()> {
+        if c == b'\n' {
+            self.end(rt)?;
+            self.empty(Part::Start);
+            return Ok(());
+        }
+        match self.part {
+            Part::Start | Part::Name => {
+                put_byte(rt, c)?;
+                self.empty(if c == b':' { Part::Rule } else { Part::Name });
+            }
+            _ => self.sign(c),
+        }
         Ok(())
     }
 }
 
-// What is known of a line with one character more. The name is written as it is.
-fn with(rt: &impl Print, line: Line, c: u8, bytes: &mut [u8; 65536]) -> io::Result<Line>
-    requires { Sound line }
-    ensures { IfOk result Sound }
-{
-    if c == b'\n' {
-        end(rt, line, bytes)?;
-        return Ok(empty_line(START));
-    }
-    if line.part <= NAME {
-        put_byte(rt, c)?;
-        return Ok(with_name(c));
-    }
-    Ok(with_sign(line, c, bytes))
-}
-
 // Answers every line, the last one also where no line feed ends it.
-pub(crate) fn run(rt: &impl Print, text: &[u8], bytes: &mut [u8; 65536]) -> io::Result<()> {
-    let mut line = empty_line(START);
+pub(crate) fn run(rt: &impl Print, text: &[u8]) -> io::Result<()> {
+    let mut line = Line::new();
     for c in text {
-        line = with(rt, line, *c, bytes)?;
+        line.read(rt, *c)?;
     }
-    end(rt, line, bytes)
+    line.end(rt)
 }

@@ -17,6 +17,5 @@ mod line;
 fn main(rt: HostRuntime) -> io::Result<()> {
     let mut text = [0u8; 65536];
     let n = read_full(&mut rt.stdin(), &mut text)?;
-    let mut bytes = [0u8; 65536];
-    line::run(&rt, &text[..n], &mut bytes)
+    line::run(&rt, &text[..n])
 }
