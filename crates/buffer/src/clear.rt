@@ -5,9 +5,5 @@ ghost use Rattle.std.specs.Prelude.{◌≡◌, length, replicate};
 pub fn clear(words: &mut [u64])
     ensures { words.new ≡ replicate (length words.old) 0 }
 {
-    let mut s: usize = 0;
-    'all: while s < words.len() {
-        words[s] = 0;
-        s += 1;
-    }
+    words.fill(0);
 }

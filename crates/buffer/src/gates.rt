@@ -10,10 +10,7 @@ use steps::word::put_bit;
 pub fn gate_pass(gate: Gate, i: usize, words: &mut [u64])
     ensures { words.new ≡ listed (length words.old) (gated_word gate i words.old) }
 {
-    let mut s: usize = 0;
-    while s < words.len() {
-        let w = words[s];
-        words[s] = put_bit(w, i, gate_mark(gate, w));
-        s += 1;
+    for w in words {
+        *w = put_bit(*w, i, gate_mark(gate, *w));
     }
 }

@@ -9,14 +9,14 @@ use mathlib.Core.List.{List}
 use lib.Dec.{leb, eqb}
 use lib.ListN.{length}
 use Rattle.numbers.specs.Bytes.{number_at}
-use Rattle.terms.specs.Frame.{frame_of, kind_at, broken, next_of}
+use Rattle.terms.specs.Frame.{frame_of, kind_at, broken, next_of, Frame, Whole, Cut, Garbled}
 use Rattle.terms.specs.Kinds.{row_of}
 use Rattle.entry.specs.Entry.{entry_of, entry_at, misdirected, rule_fault}
 use Rattle.entry.specs.Taken.{EntryTaken, EntryJudged}
 use Rattle.std.specs.Prelude.{Result, Ok, Err}
 use Rattle.terms.specs.declared.refusal.Fault.{Fault}
-use Rattle.terms.specs.declared.frame.Frame.{Frame}
-use Rattle.terms.specs.declared.frame.Frame.TheVariants.{Whole, Cut, Garbled}
+use Rattle.terms.specs.Answer.{number_of_fault}
+use Rattle.terms.proofs.FaultLaws.{fault-number-some}
 use Rattle.terms.specs.declared.kind.Row.{Row}
 use Rattle.entry.specs.declared.entry.Entry.{Entry}
 use Rattle.entry.specs.declared.entry.Taken.{Taken}
@@ -72,6 +72,17 @@ rule-sound s own at e =
     go false Garbled wrong p q z = absurd (omega arith)
 
 -- ---- what a record is taken for
+
+-- A record is whole where the test of its frame gives no number, and where it gives one that is row 2's.
+pub frame-fine : (f : Frame) → ◌≡◌ {A = ℕ} 0 (cond (broken f) 2 0) → Whole ≡ f
+frame-fine Whole e = refl
+frame-fine Cut e = absurd (omega arith)
+frame-fine Garbled e = absurd (omega arith)
+
+pub frame-faulty : (f : Frame) (x : Fault) → number_of_fault x ≡ cond (broken f) 2 0 → (number_of_fault x ≡ 2) × (broken f ≡ true)
+frame-faulty Whole x e = absurd (fault-number-some x e)
+frame-faulty Cut x e = (e, refl)
+frame-faulty Garbled x e = (e, refl)
 
 -- Row 3's number, by a test.
 abbrev three : Bool → ℕ

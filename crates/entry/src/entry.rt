@@ -3,9 +3,8 @@ ghost use Rattle.std.specs.Prelude.{◌≡◌, ◌+◌, ◌*◌, ◌≤◌, leng
 ghost use Rattle.entry.specs.Entry.{entry_of, misdirected};
 ghost use Rattle.entry.specs.Taken.{EntryTaken, EntryJudged};
 
-use crate::frame::frame_of;
+use crate::frame::whole;
 use crate::number::{number_at, number_where};
-use terms::frame::Frame;
 use terms::kind::{Numbers, Row, row_of};
 use terms::limits::{ENTRIES_MOST, LABEL_MOST};
 use terms::refusal::Fault;
@@ -76,9 +75,6 @@ pub fn take_entry(s: &[u8], own: usize, at: usize) -> Result<Taken, Fault>
         return Err(Fault::RuleRecord);
     }
     let row = row_of(number_at(s, at + 2) as usize);
-    match frame_of(s, at, row.length) {
-        Frame::Cut => Err(Fault::RuleRecord),
-        Frame::Garbled => Err(Fault::RuleRecord),
-        Frame::Whole => whole_entry(row, own, entry_of(row, s, at), at + 2 + row.length),
-    }
+    whole(s, at, row.length)?;
+    whole_entry(row, own, entry_of(row, s, at), at + 2 + row.length)
 }

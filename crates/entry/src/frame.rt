@@ -1,27 +1,26 @@
 // One record at one offset: is it whole?
-ghost use Rattle.std.specs.Prelude.{◌≡◌, ◌+◌, ◌≤◌, length};
-ghost use Rattle.terms.specs.Frame.{frame_of};
+ghost use Rattle.std.specs.Prelude.{◌≡◌, cond, ◌+◌, ◌≤◌, length};
+ghost use Rattle.terms.specs.Answer.{fault_number};
+ghost use Rattle.terms.specs.Frame.{frame_of, broken};
 
 use crate::number::number_at;
-use terms::frame::Frame;
+use terms::refusal::Fault;
 
-// The record at an offset with 4 bytes or more left, where its kind has the expected length; 0: no
-// such kind.
-pub(crate) fn frame_of(s: &[u8], at: usize, expected: usize) -> Frame
+// Whether the record at an offset with 4 bytes or more left is whole, where its kind has the expected
+// length; 0: no such kind.
+pub(crate) fn whole(s: &[u8], at: usize, expected: usize) -> Result<(), Fault>
     requires { at + 4 ≤ length s.now }
-    ensures { result ≡ frame_of s.now at expected }
+    ensures { fault_number result ≡ cond (broken (frame_of s.now at expected)) 2 0 }
 {
     let unknown = expected == 0;
     if unknown {
-        return Frame::Garbled;
+        return Err(Fault::RuleRecord);
     }
     let length = number_at(s, at) as usize;
     let other_length = length != expected;
     if other_length {
-        return Frame::Garbled;
+        return Err(Fault::RuleRecord);
     }
-    if s.len() - at - 2 < expected {
-        return Frame::Cut;
-    }
-    Frame::Whole
+    let cut = s.len() - at - 2 < expected;
+    if cut { Err(Fault::RuleRecord) } else { Ok(()) }
 }

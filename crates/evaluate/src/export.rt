@@ -1,7 +1,8 @@
 // The marking in columns of its own, made by the report's size.
-ghost use Rattle.std.specs.Prelude.{◌*◌, ◌≤◌, length};
+ghost use Rattle.std.specs.Prelude.{◌≤◌};
+ghost use Rattle.terms.specs.Limits.{elements_most};
 ghost use Rattle.marking.specs.Evaluation.{Evaluated};
-ghost use Rattle.evaluate.specs.Columns.{element_bytes, small_columns, middle_columns};
+ghost use Rattle.evaluate.specs.Columns.{Enough};
 
 use marking::report::{Evaluation, mark_report};
 use terms::limits::ELEMENTS_MOST;
@@ -16,56 +17,16 @@ const MIDDLE: usize = 512;
 
 const MIDDLE_BYTES: usize = 5120;
 
-// The columns of a small report; a short call has little to clear.
-fn evaluate_small(rule: &[u8], report: &[u8], marks: &mut [u64]) -> Evaluation
-    requires { length report.now ≤ element_bytes * small_columns }
+// Evaluates with columns of N places; a short call has little to clear.
+fn evaluate_within<const N: usize>(rule: &[u8], report: &[u8], marks: &mut [u64]) -> Evaluation
+    requires few { N ≤ elements_most }
+    requires enough { Enough N report.now }
     ensures { Evaluated rule.now report.now marks.old result marks.new }
 {
-    let mut labels = [0u16; SMALL];
-    let mut levels = [0u16; SMALL];
-    let mut ups = [0u16; SMALL];
-    let mut lefts = [0u16; SMALL];
-    mark_report(
-        rule,
-        report,
-        &mut labels,
-        &mut levels,
-        &mut ups,
-        &mut lefts,
-        marks,
-    )
-    .answer
-}
-
-// The columns of a middling report.
-fn evaluate_middle(rule: &[u8], report: &[u8], marks: &mut [u64]) -> Evaluation
-    requires { length report.now ≤ element_bytes * middle_columns }
-    ensures { Evaluated rule.now report.now marks.old result marks.new }
-{
-    let mut labels = [0u16; MIDDLE];
-    let mut levels = [0u16; MIDDLE];
-    let mut ups = [0u16; MIDDLE];
-    let mut lefts = [0u16; MIDDLE];
-    mark_report(
-        rule,
-        report,
-        &mut labels,
-        &mut levels,
-        &mut ups,
-        &mut lefts,
-        marks,
-    )
-    .answer
-}
-
-// The columns of any report.
-fn evaluate_large(rule: &[u8], report: &[u8], marks: &mut [u64]) -> Evaluation
-    ensures { Evaluated rule.now report.now marks.old result marks.new }
-{
-    let mut labels = [0u16; ELEMENTS_MOST];
-    let mut levels = [0u16; ELEMENTS_MOST];
-    let mut ups = [0u16; ELEMENTS_MOST];
-    let mut lefts = [0u16; ELEMENTS_MOST];
+    let mut labels = [0u16; N];
+    let mut levels = [0u16; N];
+    let mut ups = [0u16; N];
+    let mut lefts = [0u16; N];
     mark_report(
         rule,
         report,
@@ -84,10 +45,10 @@ pub extern "C" fn pz_evaluate(rule: &[u8], report: &[u8], marks: &mut [u64]) -> 
     ensures { Evaluated rule.now report.now marks.old result marks.new }
 {
     if report.len() <= SMALL_BYTES {
-        return evaluate_small(rule, report, marks);
+        return evaluate_within::<SMALL>(rule, report, marks);
     }
     if report.len() <= MIDDLE_BYTES {
-        return evaluate_middle(rule, report, marks);
+        return evaluate_within::<MIDDLE>(rule, report, marks);
     }
-    evaluate_large(rule, report, marks)
+    evaluate_within::<ELEMENTS_MOST>(rule, report, marks)
 }

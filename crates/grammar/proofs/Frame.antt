@@ -8,8 +8,7 @@ use mathlib.Core.Bool.{Bool, cond}
 use mathlib.Core.List.{List}
 use lib.ListN.{length}
 use Rattle.numbers.specs.Bytes.{number_at}
-use Rattle.terms.specs.Frame.{frame_of, kind_at, broken, next_of, start_of}
-use Rattle.terms.specs.declared.frame.Frame.TheVariants.{Whole, Cut, Garbled}
+use Rattle.terms.specs.Frame.{frame_of, kind_at, broken, next_of, start_of, Whole, Cut, Garbled}
 use Rattle.grammar.specs.When.{Faulty, few-left, unknown-kind, wrong-length, past_end}
 use Rattle.numbers.proofs.Tells.{IsTest, holds, fails, test-stable, ltb-tests, eqb-tests}
 

@@ -1,5 +1,6 @@
 -- What the columns of a report laid out hold: the numbers in them, and where they lead. Assumes nothing.
-use Prim.Native.Nat.{ℕ, ◌*◌, ◌≤◌, ◌<◌}
+use Prim.Native.Nat.{ℕ, min, ◌*◌, ◌≤◌, ◌<◌}
+use native.Mathlib.Decide.{dec_lt}
 use native.Mathlib.Omega.{arith}
 use borrow.Author.Tests.{lt-ltb, le-ltb, ltb-true, ltb-false}
 use mathlib.Core.Path.{◌≡◌, refl, sym, ap, subst, ◌∙◌}
@@ -84,6 +85,10 @@ numbers-linked levels =
     }
 
 -- ---- the lower of two numbers
+
+pub least-min : (a b : ℕ) → min a b ≡ least_of a b
+unfolding least_of
+least-min a b = elim (dec_lt a b) [ yes h ↦ rw (lt-ltb a b h) (omega arith) | no h ↦ rw (le-ltb a b (omega arith)) (omega arith) ]
 
 pub least-within : (k a b : ℕ) → k ≤ least_of a b → (k ≤ a) × (k ≤ b)
 unfolding least_of

@@ -1,6 +1,7 @@
 // A report's elements, from its bytes.
 ghost use Rattle.std.specs.Prelude.{◌≡◌, ◌≤◌, length, take};
 ghost use Rattle.grammar.specs.Legal.{LegalLevels};
+ghost use Rattle.terms.specs.Answer.{answered};
 ghost use Rattle.layout.specs.Links.{parents, previous_siblings};
 ghost use Rattle.layout.specs.Layout.{LaidOut};
 ghost use Rattle.numbers.specs.Lists.{over};
@@ -8,7 +9,7 @@ ghost use Rattle.numbers.specs.Lists.{over};
 use crate::columns::least_of_four;
 use crate::links::link;
 use reports::elements::read_elements;
-use terms::answer::Answer;
+use terms::refusal::Refusal;
 
 // Links the first n elements.
 fn link_first(n: usize, levels: &[u16], ups: &mut [u16], lefts: &mut [u16])
@@ -22,24 +23,20 @@ fn link_first(n: usize, levels: &[u16], ups: &mut [u16], lefts: &mut [u16])
 
 // Reads a report, and puts its elements' labels and levels into the lent columns, in order of opening;
 // where it is accepted and every column has room for its elements, also their parents and previous
-// siblings.
+// siblings. Four slices, and no struct that holds them: lent as `&mut`, it can't lend two of its columns to
+// one call, which the check does not cover.
 pub fn lay_out(
     report: &[u8],
     labels: &mut [u16],
     levels: &mut [u16],
     ups: &mut [u16],
     lefts: &mut [u16],
-) -> Answer
-    ensures { LaidOut report.now labels.old levels.old ups.old lefts.old result labels.new levels.new ups.new lefts.new }
+) -> Result<usize, Refusal>
+    ensures { LaidOut report.now labels.old levels.old ups.old lefts.old (answered result) labels.new levels.new ups.new lefts.new }
 {
-    let answer = read_elements(report, labels, levels);
-    match answer {
-        Answer::Accepted(n) => {
-            if n <= least_of_four(labels.len(), levels.len(), ups.len(), lefts.len()) {
-                link_first(n, levels, ups, lefts)
-            }
-        }
-        Answer::Refused(_, _) => {}
+    let n = read_elements(report, labels, levels)?;
+    if n <= least_of_four(labels.len(), levels.len(), ups.len(), lefts.len()) {
+        link_first(n, levels, ups, lefts)
     }
-    answer
+    Ok(n)
 }

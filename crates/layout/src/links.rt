@@ -18,13 +18,11 @@ pub(crate) fn link(levels: &[u16], ups: &mut [u16], lefts: &mut [u16])
     ensures { Linked levels.now ups.new lefts.new }
 {
     let mut held = [0u16; HELD];
-    let mut s: usize = 0;
-    while s < levels.len() {
-        let d = wide(levels[s]);
+    for (s, level) in levels.iter().enumerate() {
+        let d = wide(*level);
         ups[s] = held[d];
         lefts[s] = held[d + 1];
         held[d + 1] = s as u16;
         held[d + 2] = (s + 1) as u16;
-        s += 1;
     }
 }

@@ -27,10 +27,8 @@ pub(crate) fn turn_pass(
     requires nearest { Nearest asked f.now }
     ensures { Passed (length f.now) i (ahead_mark asked (length f.now) (leads f.now) (bits_of marks.old a) (bits_of marks.old b)) marks.old marks.new }
 {
-    let mut t = f.len();
-    let mut next = t;
-    while 0 < t {
-        t -= 1;
+    let mut next = f.len();
+    for t in (0..f.len()).rev() {
         let w = marks[t];
         let own = own_at(asked, a, b, i, next == t, w);
         marks[t] = low_with_bit(w, i, own);
@@ -48,11 +46,9 @@ pub(crate) fn gather_pass(a: usize, i: usize, f: &[u16], marks: &mut [u64])
     requires not_past { (s : ℕ) → s < length f.now → get_or f.now s 0 ≤ s }
     ensures { Passed (length f.now) i (some_of forward (length f.now) (leads f.now) (bits_of marks.old a)) marks.old marks.new }
 {
-    let mut s: usize = 0;
-    while s < f.len() {
-        let p = wide(f[s]);
+    for (s, p) in f.iter().enumerate() {
+        let p = wide(*p);
         let given = bit_where(marks[s], a, p < s);
         marks[p] = put_low_bit(marks[p], i, given);
-        s += 1;
     }
 }

@@ -15,10 +15,8 @@ pub(crate) fn back_pass(until: bool, a: usize, b: usize, i: usize, f: &[u16], ma
     requires not_past { (s : ℕ) → s < length f.now → get_or f.now s 0 ≤ s }
     ensures { Passed (length f.now) i (along_mark until backward (length f.now) (leads f.now) (bits_of marks.old a) (bits_of marks.old b)) marks.old marks.new }
 {
-    let mut s: usize = 0;
-    while s < f.len() {
-        let p = wide(f[s]);
+    for (s, p) in f.iter().enumerate() {
+        let p = wide(*p);
         marks[s] = back_word(until, a, b, i, p < s, marks[p], marks[s]);
-        s += 1;
     }
 }

@@ -16,10 +16,8 @@ fn label_pass(label: usize, i: usize, labels: &[u16], marks: &mut [u64])
     requires { Room (length labels.now) i marks.old }
     ensures { Passed (length labels.now) i (λ s. eqb (get_or labels.now s 0) label) marks.old marks.new }
 {
-    let mut s: usize = 0;
-    while s < labels.len() {
-        marks[s] = put_bit(marks[s], i, label_mark(labels[s], label));
-        s += 1;
+    for (s, own) in labels.iter().enumerate() {
+        marks[s] = put_bit(marks[s], i, label_mark(*own, label));
     }
 }
 

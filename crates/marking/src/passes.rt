@@ -77,8 +77,7 @@ pub(crate) fn mark_entries<'a>(
     requires columns { (levels : List ℕ) × Columns levels labels.now ups.now lefts.now }
     ensures { (levels : List ℕ) → Columns levels labels.now ups.now lefts.now → Stored (length levels) (word_of (entries_in entries table.now) levels labels.now) marks.old marks.new }
 {
-    let mut i: usize = 0;
-    while i < entries {
+    for i in 0..entries {
         let row = row_of(wide(table[3 * i]));
         let shape = row.shape;
         mark_entry(
@@ -91,6 +90,5 @@ pub(crate) fn mark_entries<'a>(
             lefts,
             marks,
         );
-        i += 1;
     }
 }

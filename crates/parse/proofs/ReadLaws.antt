@@ -19,9 +19,11 @@ use Rattle.paths.proofs.Count.{table-count, table-bytes}
 use Rattle.paths.proofs.Unambiguous.{text-only}
 use Rattle.paths.proofs.Answer.{gets-only}
 use Rattle.paths.proofs.Place.{run-halts, halts-stops, text-iff}
-use Rattle.parse.specs.declared.tree.Parsed.TheVariants.{Done, Bad}
-use Rattle.parse.specs.declared.tree.Outcome.{Outcome}
-use Rattle.parse.specs.declared.tree.Outcome.TheVariants as O
+use Rattle.std.specs.Prelude.{Result, Ok, Err, is_err}
+use Rattle.words.specs.declared.words.Stray.{Stray}
+use Rattle.parse.specs.declared.tree.Part.{Part}
+use Rattle.parse.specs.declared.tree.Counts.{Counts}
+use Rattle.words.specs.Words.{stray}
 use Rattle.parse.specs.Rows.{no_rows}
 use Rattle.parse.specs.Promises.{TestParsed, Read, TreeRead}
 
@@ -41,19 +43,20 @@ stops-here s p l e =
       same : (q : ℕ) → q ≤ length s → s ≡ take q s ++ drop p s → q ≡ p
       same q i k = omega (arith, ap length k, length-append (take q s) (drop p s), length-take q s, length-drop p s)
 
-pub read-bad : (s rows : List ℕ) (p : ℕ) → TestParsed false s 0 0 rows (Bad p) rows → Read s rows (O.Stopped p) rows
-read-bad s rows p (m, g) = stops-here s p m (g [])
+pub read-stops : (s rows : List ℕ) (e : Stray) → TestParsed false s 0 0 rows (Err e) rows → Read s rows (Err e) rows
+read-stops s rows e (m, g) = stops-here s e.place m (g [])
 
-module _ (s rows after : List ℕ) where
-  pub read-over : (e n b : ℕ) (v : Bool) → TestParsed false s 0 0 rows (Done e v n b) after → (e ≡ length s → ⊥) → Read s rows (O.Stopped e) after
-  read-over e n b v (f, g, t) h =
-      stops-here s e f.within (g [] ∙ over v (drop e s) (omega (arith, length-drop e s, lt_of_le-ne f.within h)))
+module _ (s rows after : List ℕ) (p : Part) (x : TestParsed false s 0 0 rows (Ok p) after) where
+  pub read-over : (p.end ≡ length s → ⊥) → Read s rows (stray p.end) after
+  read-over h =
+      let f = x.0 in stops-here s p.end f.within (x.1 [] ∙ over p.word (drop p.end s) (omega (arith, length-drop p.end s, lt_of_le-ne f.within h)))
 
-  pub read_whole : (e n b : ℕ) (v : Bool) → TestParsed false s 0 0 rows (Done e v n b) after → e ≡ length s → Read s rows (O.Text n b) after
+  pub read_whole : p.end ≡ length s → Read s rows (Ok (record { entries = p.entries; bytes = p.bytes })) after
   unfolding text_of
-  read_whole e n b v (f, g, t) h =
-      let y : length s ≤ e = omega arith in
-      let w : drop e s ≡ [] = drop_of_length-le s y in (
+  read_whole h =
+      let t = x.2 in
+      let y : length s ≤ p.end = omega arith in
+      let w : drop p.end s ≡ [] = drop_of_length-le s y in (
         t.tree,
         t.labels,
         t.reads ∙ rw (w, spell-ahead false (pieces_t t.tree [])),
@@ -82,18 +85,18 @@ not-sized s e z = go (eqb (length s) 0) refl e where
   go true i e = omega (arith, eqb-true (length s) 0 i, z.some)
   go false i e = omega (arith, ltb-true text_most (length s) e, z.few)
 
-pub tree-size : (s : List ℕ) → (eqb (length s) 0 || ltb text_most (length s)) ≡ true → TreeRead s (O.Stopped 0) no_rows
+pub tree-size : (s : List ℕ) → (eqb (length s) 0 || ltb text_most (length s)) ≡ true → TreeRead s (stray 0) no_rows
 tree-size s e = (bad-size (not-sized s e), refl)
 
-module _ (s : List ℕ) (z : Sized text_most s) (o : Outcome) (rows : List ℕ) (x : Read s no_rows o rows) where
-  pub tree-text : (n b : ℕ) → o ≡ O.Text n b → TreeRead s (O.Text n b) rows
-  tree-text n b e =
-      let y : Read s no_rows (O.Text n b) rows = rw e at x in
-      let (t, g, q, i, j, h) = y in (t, record { sized = z; labels = g; spelt = q }, i, j, h)
+module _ (s : List ℕ) (z : Sized text_most s) (rows : List ℕ) where
+  -- The rows stay where there is a tree, and are cleared where there is none.
+  pub tree-text : (r : Result Counts Stray) → is_err r ≡ false → Read s no_rows r rows → TreeRead s r rows
+  tree-text (Ok n) h (t, g, q, i, j, k) = (t, record { sized = z; labels = g; spelt = q }, i, j, k)
+  tree-text (Err e) h x = absurd (cc)
 
-  pub tree-stopped : (p : ℕ) → o ≡ O.Stopped p → TreeRead s (O.Stopped p) no_rows
-  tree-stopped p e =
-      let y : Read s no_rows (O.Stopped p) rows = rw e at x in (no_text z y.0 y.1, refl)
+  pub tree-stopped : (r : Result Counts Stray) → is_err r ≡ true → Read s no_rows r rows → TreeRead s r no_rows
+  tree-stopped (Ok n) h x = absurd (cc)
+  tree-stopped (Err e) h x = (no_text z x.0 x.1, refl)
 
 -- ---- one result only
 
@@ -101,11 +104,11 @@ no_place : (s : List ℕ) (t : Test) (p : ℕ) → TextOf s t → TextGets s (Re
 no_place s t p x g = let z = ap number_of (gets-only s g (is-text x)).0 in omega arith
 
 -- Any two results that meet the promise are equal: the outcome, and every number of the rows.
-pub tree-only : (s : List ℕ) (o q : Outcome) (rows others : List ℕ) → TreeRead s o rows → TreeRead s q others → (o ≡ q) × (rows ≡ others)
-tree-only s (O.Text n b) (O.Text m c) rows others (t, x, i, j, h) (u, y, k, l, g) =
+pub tree-only : (s : List ℕ) (o q : Result Counts Stray) (rows others : List ℕ) → TreeRead s o rows → TreeRead s q others → (o ≡ q) × (rows ≡ others)
+tree-only s (Ok n) (Ok m) rows others (t, x, i, j, h) (u, y, k, l, g) =
     let same : t ≡ u = text-only t u (sym x.spelt ∙ y.spelt) in
     (rw (i, j, k, l, same), h ∙ rw (g, same))
-tree-only s (O.Text n b) (O.Stopped q) rows others (t, x, i, j, h) (g, r) = absurd (no_place s t q x g)
-tree-only s (O.Stopped p) (O.Text m c) rows others (g, r) (t, x, i, j, h) = absurd (no_place s t p x g)
-tree-only s (O.Stopped p) (O.Stopped q) rows others (g, r) (f, k) =
-    let same : p ≡ q = ap place_of (gets-only s g f).0 in (rw same, r ∙ sym k)
+tree-only s (Ok n) (Err q) rows others (t, x, i, j, h) (g, r) = absurd (no_place s t q.place x g)
+tree-only s (Err p) (Ok m) rows others (g, r) (t, x, i, j, h) = absurd (no_place s t p.place x g)
+tree-only s (Err p) (Err q) rows others (g, r) (f, k) =
+    let same : p.place ≡ q.place = ap place_of (gets-only s g f).0 in (rw same, r ∙ sym k)

@@ -2,7 +2,7 @@
 -- What each function promises at a cursor, over every stack below it, and of the tree that it read. Callers of the crate use `TreeRead`
 -- alone; the rest need not be believed.
 -- Laws: proofs/PartLaws.antt, proofs/TreeLaws.antt, proofs/ReadLaws.antt (one result only). Assumes nothing.
-use Rattle.std.specs.Prelude.{ℕ, zero, suc, ◌+◌, ◌*◌, ◌≤◌, ◌<◌, ◌≡◌, Bool, false, List, [], ◌∷◌, length, drop}
+use Rattle.std.specs.Prelude.{ℕ, zero, suc, ◌+◌, ◌*◌, ◌≤◌, ◌<◌, ◌≡◌, Bool, false, List, [], ◌∷◌, length, drop, Result, Ok, Err}
 use Rattle.paths.specs.Syntax.{Test, Path, Step, GoodT, GoodP, GoodS}
 use Rattle.paths.specs.Spelling.{greater, sign, pieces_t, pieces_p, pieces_s, text_of, Text, StopsAt}
 use Rattle.paths.specs.Translation.{table_of}
@@ -12,15 +12,16 @@ use Rattle.paths.proofs.Machine.{Expected, test, path, run}
 use Rattle.paths.proofs.Ahead.{wordy_t, wordy_s, ahead}
 use Rattle.paths.proofs.Count.{weight_t, weight_p, weight_s, record_length}
 use Rattle.paths.proofs.Descent.{Reads, Stops}
-use Rattle.words.specs.declared.words.Word.{Word}
-use Rattle.words.specs.declared.words.Word.TheVariants.{At, Missing}
+use Rattle.words.specs.declared.words.Stray.{Stray}
 use Rattle.words.proofs.Reading.{WordAt, StepReads}
-use Rattle.parse.specs.declared.tree.Parsed.{Parsed}
-use Rattle.parse.specs.declared.tree.Parsed.TheVariants.{Done, Bad}
-use Rattle.parse.specs.declared.tree.Outcome.{Outcome}
-use Rattle.parse.specs.declared.tree.Outcome.TheVariants as O
+use Rattle.parse.specs.declared.tree.Part.{Part}
+use Rattle.parse.specs.declared.tree.Counts.{Counts}
 use Rattle.spell.specs.Forms.{form_entries, form_bytes}
-use Rattle.parse.specs.Rows.{no_rows, note_row, note_t, note_p, note_s}
+use Rattle.parse.specs.Rows.{no_rows, note_t, note_p, note_s}
+
+-- A cursor in a text, behind k entries: it is not past the end, and there is a byte before it for each of them.
+abbrev pub At : (s : List ℕ) (at k : ℕ) → Type 0
+At s at k = (at ≤ length s) × (length s ≤ text_most) × (k ≤ at)
 
 -- ---- trees
 
@@ -60,20 +61,23 @@ pub record Fits (s : List ℕ) (at end entries bytes : ℕ) : Type 0 where
   pub entries_fit : at + entries ≤ end
   pub bytes_fit : bytes ≤ 8 * entries
 
-abbrev pub TestParsed : (after : Bool) (s : List ℕ) (at k : ℕ) (rows : List ℕ) → Parsed → List ℕ → Type 0
-TestParsed w s at k rows (Done e v n b) rows' =
-    Fits s at e n b × Reads w test (drop at s) v (drop e s) × TestIs w (drop at s) (drop e s) v n b k rows rows'
-TestParsed w s at k rows (Bad p) rows' = (p ≤ length s) × Stops w test (drop at s) (drop p s)
+abbrev pub TestParsed : (after : Bool) (s : List ℕ) (at k : ℕ) (rows : List ℕ) → Result Part Stray → List ℕ → Type 0
+TestParsed w s at k rows (Ok p) rows' =
+    Fits s at p.end p.entries p.bytes × Reads w test (drop at s) p.word (drop p.end s)
+    × TestIs w (drop at s) (drop p.end s) p.word p.entries p.bytes k rows rows'
+TestParsed w s at k rows (Err e) rows' = (e.place ≤ length s) × Stops w test (drop at s) (drop e.place s)
 
-abbrev pub PathParsed : (s : List ℕ) (at k : ℕ) (rows : List ℕ) → Parsed → List ℕ → Type 0
-PathParsed s at k rows (Done e v n b) rows' =
-    Fits s at e n b × (v ≡ false) × Reads false path (drop at s) false (drop e s) × PathIs (drop at s) (drop e s) n b k rows rows'
-PathParsed s at k rows (Bad p) rows' = (p ≤ length s) × Stops false path (drop at s) (drop p s)
+abbrev pub PathParsed : (s : List ℕ) (at k : ℕ) (rows : List ℕ) → Result Part Stray → List ℕ → Type 0
+PathParsed s at k rows (Ok p) rows' =
+    Fits s at p.end p.entries p.bytes × (p.word ≡ false) × Reads false path (drop at s) false (drop p.end s)
+    × PathIs (drop at s) (drop p.end s) p.entries p.bytes k rows rows'
+PathParsed s at k rows (Err e) rows' = (e.place ≤ length s) × Stops false path (drop at s) (drop e.place s)
 
-abbrev pub StepParsed : (s : List ℕ) (at k before : ℕ) (rows : List ℕ) → Parsed → List ℕ → Type 0
-StepParsed s at k before rows (Done e v n b) rows' =
-    Fits s at e n b × StepReads (drop at s) v (drop e s) × StepIs (drop at s) (drop e s) v n b k before rows rows'
-StepParsed s at k before rows (Bad p) rows' = (p ≤ length s) × Stops false path (drop at s) (drop p s)
+abbrev pub StepParsed : (s : List ℕ) (at k before : ℕ) (rows : List ℕ) → Result Part Stray → List ℕ → Type 0
+StepParsed s at k before rows (Ok p) rows' =
+    Fits s at p.end p.entries p.bytes × StepReads (drop at s) p.word (drop p.end s)
+    × StepIs (drop at s) (drop p.end s) p.word p.entries p.bytes k before rows rows'
+StepParsed s at k before rows (Err e) rows' = (e.place ≤ length s) × Stops false path (drop at s) (drop e.place s)
 
 -- The steps of a path so far: its rest is read from here as the whole would be from its beginning. `whole` puts these steps in front of
 -- a path.
@@ -97,50 +101,44 @@ unfoldable pub leaf_bytes : ℕ → ℕ
 leaf_bytes zero = 4
 leaf_bytes (suc n) = 6
 
-abbrev pub Small : Parsed → Type 0
-Small (Done e v n b) = (n ≤ text_most) × (b ≤ 8 * text_most)
-Small (Bad p) = Unit {0}
+abbrev pub Small : Part → Type 0
+Small p = (p.entries ≤ text_most) × (p.bytes ≤ 8 * text_most)
 
-abbrev pub Ends : List ℕ → Parsed → Type 0
-Ends s (Done e v n b) = e ≤ length s
-Ends s (Bad p) = Unit {0}
+-- `not`, and the part.
+abbrev pub excepted : Part → Part
+excepted p = record p { entries = p.entries + 1; bytes = p.bytes + 6 }
 
-abbrev pub closed_by : Word → (entries bytes : ℕ) → Parsed
-closed_by (At e) n b = Done e false n b
-closed_by (Missing p) n b = Bad p
+-- The parts in brackets, with ` or` between them.
+abbrev pub either_of : (left right : Part) → Part
+either_of l r = record r { entries = l.entries + r.entries + 1; bytes = l.bytes + r.bytes + 8 }
 
-abbrev pub Shut : (x s : List ℕ) → Parsed → Parsed → Type 0
-Shut x s (Done e v n b) r = (k : Word) × WordAt x s e k × (r ≡ closed_by k n b)
-Shut x s (Bad p) r = r ≡ Bad p
+-- The part as a test of a step of the form.
+abbrev pub step_of : Part → (form : ℕ) → Part
+step_of p form = record p { entries = p.entries + form_entries form; bytes = p.bytes + form_bytes form }
 
-abbrev pub Closing : Parsed → Parsed → Type 0
-Closing (Done e v n b) r = r ≡ Done e v (n + 1) (b + 4)
-Closing (Bad p) r = r ≡ Bad p
+-- `<`, and the part.
+abbrev pub closed : Part → Part
+closed p = record p { entries = p.entries + 1; bytes = p.bytes + 4 }
 
-abbrev pub Excepted : Parsed → (k : ℕ) (rows : List ℕ) → Parsed → List ℕ → Type 0
-Excepted (Done e v n b) k rows r rows' = (r ≡ Done e v (n + 1) (b + 6)) × (rows' ≡ note_row rows (k + n + 1) 3 (k + n) 0)
-Excepted (Bad p) k rows r rows' = r ≡ Bad p
+-- The part, and a word of signs behind it.
+abbrev pub shut_by : Part → Result ℕ Stray → Result Part Stray
+shut_by p (Ok e) = Ok (record p { end = e; word = false })
+shut_by p (Err q) = Err q
 
-abbrev pub EitherOf : Parsed → (k n b : ℕ) (rows : List ℕ) → Parsed → List ℕ → Type 0
-EitherOf (Done e v m c) k n b rows r rows' = (r ≡ Done e v (m + n + 1) (c + b + 8)) × (rows' ≡ note_row rows (k + m + 1) 4 k (k + m))
-EitherOf (Bad p) k n b rows r rows' = r ≡ Bad p
-
-abbrev pub StepOf : Parsed → (k form before : ℕ) (rows : List ℕ) → Parsed → List ℕ → Type 0
-StepOf (Done e v n b) k form before rows r rows' =
-    (r ≡ Done e v (n + form_entries form) (b + form_bytes form)) × (rows' ≡ note_row rows (k + n + form_entries form) form (k + n) before)
-StepOf (Bad p) k form before rows r rows' = r ≡ Bad p
+abbrev pub Shut : (x s : List ℕ) → Part → Result Part Stray → Type 0
+Shut x s p r = (k : Result ℕ Stray) × WordAt x s p.end k × (r ≡ shut_by p k)
 
 -- ---- the text
 
 -- The bytes are the text of a tree, which counts so much and is noted; or they stop being a text at the place.
-abbrev pub Read : (s rows : List ℕ) → Outcome → List ℕ → Type 0
-Read s rows (O.Text n b) rows' =
-    (t : Test) × GoodT t × (s ≡ text_of t) × (n ≡ length (table_of t)) × (b ≡ length (bytes_for t)) × (rows' ≡ note_t t 0 rows)
-Read s rows (O.Stopped p) rows' = (Text s → ⊥) × StopsAt s p
+abbrev pub Read : (s rows : List ℕ) → Result Counts Stray → List ℕ → Type 0
+Read s rows (Ok n) rows' =
+    (t : Test) × GoodT t × (s ≡ text_of t) × (n.entries ≡ length (table_of t)) × (n.bytes ≡ length (bytes_for t)) × (rows' ≡ note_t t 0 rows)
+Read s rows (Err e) rows' = (Text s → ⊥) × StopsAt s e.place
 
 -- The string has 1 to 1,024 bytes and is the text of a tree: so many entries, so many bytes of rule, and the rows of the tree. Or it gets
 -- 13 at the place, whatever the room, and no row is filled.
-abbrev pub TreeRead : (s : List ℕ) → Outcome → (rows : List ℕ) → Type 0
-TreeRead s (O.Text n b) rows =
-    (t : Test) × TextOf s t × (n ≡ length (table_of t)) × (b ≡ length (bytes_for t)) × (rows ≡ note_t t 0 no_rows)
-TreeRead s (O.Stopped p) rows = TextGets s (Refused 13 p) [] × (rows ≡ no_rows)
+abbrev pub TreeRead : (s : List ℕ) → Result Counts Stray → (rows : List ℕ) → Type 0
+TreeRead s (Ok n) rows =
+    (t : Test) × TextOf s t × (n.entries ≡ length (table_of t)) × (n.bytes ≡ length (bytes_for t)) × (rows ≡ note_t t 0 no_rows)
+TreeRead s (Err e) rows = TextGets s (Refused 13 e.place) [] × (rows ≡ no_rows)

@@ -9,9 +9,7 @@ use mathlib.Core.List.{List}
 use lib.Dec.{ltb, eqb}
 use lib.ListN.{length}
 use Rattle.numbers.specs.Bytes.{number_at}
-use Rattle.terms.specs.Frame.{frame_of}
-use Rattle.terms.specs.declared.frame.Frame.{Frame}
-use Rattle.terms.specs.declared.frame.Frame.TheVariants.{Whole, Cut, Garbled}
+use Rattle.terms.specs.Frame.{frame_of, Frame, Whole, Cut, Garbled}
 
 module _ (s : List ℕ) (at expected : ℕ) where
   -- Fewer than 4 bytes left.

@@ -3,8 +3,6 @@
 -- Laws: proofs/FrameLaws.antt, and the crate grammar. Assumes nothing.
 use Rattle.std.specs.Prelude.{ℕ, zero, suc, ◌+◌, Bool, true, false, cond, not, ◌||◌, List, ltb, eqb, length}
 use Rattle.numbers.specs.Bytes.{number_at}
-use Rattle.terms.specs.declared.frame.Frame.{Frame}
-use Rattle.terms.specs.declared.frame.Frame.TheVariants.{Whole, Cut, Garbled}
 
 -- The kind of the record at an offset.
 abbrev pub kind_at : List ℕ → ℕ → ℕ
@@ -20,6 +18,13 @@ start_of s zero = 0
 start_of s (suc i) = next_of s (start_of s i)
 
 -- ==== Working definitions: nothing below has to be believed
+
+-- A record is whole, or cut short (fewer than 4 bytes left, or running past the end), or garbled (an unknown kind, or another length
+-- than its kind's).
+pub data Frame : Type 0 where
+  Whole : Frame
+  Cut : Frame
+  Garbled : Frame
 
 -- The record at an offset, where a record of its kind has the expected length (0: there is no such kind): cut short with fewer
 -- than 4 bytes left, or running past the end; garbled with an unknown kind or another length than its kind's; else whole.

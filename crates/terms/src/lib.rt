@@ -1,8 +1,7 @@
-// The terms of document 01 that every layer shares: its limits, what a reader answers, the kinds of rule
-// records with what each means, and whether one record stands whole at one offset.
+// The terms of document 01 that every layer shares: its limits, why and where something is refused, and the
+// kinds of rule records with what each means.
 #![tactic(auto)]
 
-pub mod frame;
 pub mod kind;
 pub mod limits;
 mod number;

@@ -25,8 +25,9 @@ use Rattle.paths.specs.Answer.{text_most, TextOf, bytes_for, TextGets, bad-size,
 use Rattle.paths.proofs.Answer.{gets-only, one-tree, outcome-many, outcome-short, outcome-taken, outcome-refused}
 use Rattle.parse.specs.Rows.{HeldT}
 use Rattle.parse.specs.Promises.{TreeRead}
-use Rattle.parse.specs.declared.tree.Outcome.{Outcome}
-use Rattle.parse.specs.declared.tree.Outcome.TheVariants as O
+use Rattle.std.specs.Prelude.{Ok, Err}
+use Rattle.words.specs.declared.words.Stray.{Stray}
+use Rattle.parse.specs.declared.tree.Counts.{Counts}
 use Rattle.parse.proofs.HeldLaws.{text-held}
 use Rattle.typing.specs.declared.export.PathReply.{PathReply}
 use Rattle.typing.specs.Typed.{path_reply, Typed}
@@ -64,42 +65,36 @@ module _ (text rule : List ℕ) where
   typed-refused {a} {es} number place g e q =
       record { answer = a; entries = es; gets = g; reply_is = rw e q; buffer = rw e (sym (over_none rule)) }
 
-  pub place-small : (o : Outcome) (rows : List ℕ) (p : ℕ) → o ≡ O.Stopped p → TreeRead text o rows → p ≤ text_most
-  place-small o rows p e x = let y : TreeRead text (O.Stopped p) rows = rw e at x in go y.0 where
+  pub place-small : (rows : List ℕ) (p : Stray) → TreeRead text (Err p) rows → p.place ≤ text_most
+  place-small rows p y = go y.0 where
     go : {q : ℕ} {es : List Entry} → TextGets text (Refused 13 q) es → q ≤ text_most
     go (bad-size h) = omega arith
     go (no_text z h k) = omega (arith, z.few, k.within)
 
-  pub typed-stopped : (o : Outcome) (rows : List ℕ) (p : ℕ) (r : PathReply) → o ≡ O.Stopped p → TreeRead text o rows
-      → r ≡ path_reply (Refused 13 p) [] → Typed text rule r rule
-  typed-stopped o rows p r e x q =
-      let y : TreeRead text (O.Stopped p) rows = rw e at x in typed-refused 13 p y.0 (outcome-refused 13 p [] (length rule)) q
+  pub typed-stopped : (rows : List ℕ) (p : Stray) (r : PathReply) → TreeRead text (Err p) rows → r ≡ path_reply (Refused 13 p.place) [] → Typed text rule r rule
+  typed-stopped rows p r y q = typed-refused 13 p.place y.0 (outcome-refused 13 p.place [] (length rule)) q
 
-  module _ (o : Outcome) (rows : List ℕ) (n b : ℕ) (e : o ≡ O.Text n b) (x : TreeRead text o rows) where
-    -- What is known of a text that was read.
-    abbrev whole : TreeRead text (O.Text n b) rows
-    whole = rw e at x
-
-    pub typed-many : (r : PathReply) → entries_most < n → r ≡ path_reply (Refused 14 0) [] → Typed text rule r rule
+  module _ (rows : List ℕ) (n : Counts) (whole : TreeRead text (Ok n) rows) where
+    pub typed-many : (r : PathReply) → entries_most < n.entries → r ≡ path_reply (Refused 14 0) [] → Typed text rule r rule
     typed-many r l q =
         let (t, y, i, j, h) = whole in typed-refused 14 0 (is-text y) (outcome-many _ (table_of t) (length rule) (omega arith)) q
 
-    module _ (few : n ≤ entries_most) where
-      pub typed-short : (r : PathReply) → length rule < b → r ≡ path_reply (Refused 9 0) [] → Typed text rule r rule
+    module _ (few : n.entries ≤ entries_most) where
+      pub typed-short : (r : PathReply) → length rule < n.bytes → r ≡ path_reply (Refused 9 0) [] → Typed text rule r rule
       typed-short r l q =
           let (t, y, i, j, h) = whole in
           typed-refused 9 0 (is-text y) (outcome-short _ (table_of t) (length rule) (omega arith) (omega arith)) q
 
-      pub bytes_small : b ≤ rule_most
+      pub bytes_small : n.bytes ≤ rule_most
       bytes_small = let (t, y, i, j, h) = whole in omega (arith, room-always t (omega arith))
 
-      module _ (room : b ≤ length rule) where
+      module _ (room : n.bytes ≤ length rule) where
         -- What the writer asks for.
-        pub typed-asks : (n ≤ entries_most) × ((t : Test) × HeldT rows t n × (length (table_of t) ≤ entries_most) × (length (rule_bytes (table_of t)) ≤ length rule))
-        typed-asks = let (t, y, i, j, h) = whole in (few, (t, text-held t n rows i few h, omega arith, omega arith))
+        pub typed-asks : (n.entries ≤ entries_most) × ((t : Test) × HeldT rows t n.entries × (length (table_of t) ≤ entries_most) × (length (rule_bytes (table_of t)) ≤ length rule))
+        typed-asks = let (t, y, i, j, h) = whole in (few, (t, text-held t n.entries rows i few h, omega arith, omega arith))
 
-        pub typed-taken : (after : List ℕ) → ((t : Test) → HeldT rows t n → after ≡ over (rule_bytes (table_of t)) rule)
-            → Typed text rule (record { number = 0; place = 0; written = b }) after
+        pub typed-taken : (after : List ℕ) → ((t : Test) → HeldT rows t n.entries → after ≡ over (rule_bytes (table_of t)) rule)
+            → Typed text rule (record { number = 0; place = 0; written = n.bytes }) after
         typed-taken after f =
             let (t, y, i, j, h) = whole in
             let k = outcome-taken (length (table_of t)) (table_of t) (length rule) (omega arith) (omega arith) in
@@ -108,7 +103,7 @@ module _ (text rule : List ℕ) where
               entries = table_of t;
               gets = is-text y;
               reply_is = rw k (counted (sym j));
-              buffer = rw k (f t (text-held t n rows i few h));
+              buffer = rw k (f t (text-held t n.entries rows i few h));
             }
 
 -- ---- one result only

@@ -4,7 +4,7 @@ ghost use Rattle.terms.specs.Answer.{Refused};
 ghost use Rattle.typing.specs.Typed.{path_reply, Typed};
 
 use crate::write::write_rule;
-use parse::tree::{Outcome, ROW_PLACES, read_tree};
+use parse::tree::{ROW_PLACES, read_tree};
 use terms::limits::ENTRIES_MOST;
 
 // What the call answers: the number, the place, and how many bytes it wrote.
@@ -35,20 +35,20 @@ pub extern "C" fn pz_read_path(text: &[u8], rule: &mut [u8]) -> PathReply
 {
     let mut rows = [0u16; ROW_PLACES];
     match read_tree(text, &mut rows) {
-        Outcome::Stopped(p) => refused(13, p as u32),
-        Outcome::Text(entries, bytes) => {
-            let too_many = ENTRIES_MOST < entries;
+        Err(e) => refused(13, e.place as u32),
+        Ok(counts) => {
+            let too_many = ENTRIES_MOST < counts.entries;
             if too_many {
                 return refused(14, 0);
             }
-            if rule.len() < bytes {
+            if rule.len() < counts.bytes {
                 return refused(9, 0);
             }
-            write_rule(&rows, entries, rule);
+            write_rule(&rows, counts.entries, rule);
             PathReply {
                 number: 0,
                 place: 0,
-                written: bytes as u32,
+                written: counts.bytes as u32,
             }
         }
     }

@@ -1,27 +1,31 @@
 -- An entry that looks ahead; a walk turn by turn, one entry more behind the others; what it says of an accepted rule.
 -- Assumes nothing.
-use Prim.Native.Nat.{ℕ, suc, ◌+◌, ◌*◌, ◌^◌, ◌≤◌}
+use Prim.Native.Nat.{ℕ, suc, ◌+◌, ◌*◌, ◌^◌}
 use native.Mathlib.Omega.{arith}
+use native.Mathlib.Numerals.{add-one}
 use mathlib.Core.Path.{◌≡◌, refl, sym, ap, ◌∙◌}
 use mathlib.Core.Bool.{Bool, true, false, not, ◌||◌}
-use mathlib.Core.List.{List, [], ◌∷◌, ◌++◌}
-use lib.ListN.{length}
-use Rattle.terms.specs.Answer.{Answer, Accepted, Refused}
-use Rattle.terms.specs.declared.kind.Shape.{Shape}
+use mathlib.Core.List.{List, [], ◌∷◌, ◌++◌, append_assoc, append-nil}
+use lib.ListN.{length, length-append}
+use lib.Bits.{or_shifted_r}
+use Rattle.std.specs.Int.Bits.{bit_or}
+use Rattle.std.specs.Prelude.{Result, Ok}
+use Rattle.terms.specs.Answer.{answered}
+use Rattle.terms.specs.declared.refusal.Refusal.{Refusal}
 use Rattle.entry.specs.declared.entry.Entry.{Entry}
-use Rattle.terms.specs.Kinds.{looks_back, shape_looks_back, shape_of}
-use Rattle.terms.specs.Limits.{entries_most}
-use Rattle.entry.specs.Entry.{entry_at}
+use Rattle.terms.specs.Kinds.{looks_back, shape_of}
 use Rattle.rules.specs.Rule.{rule_answer}
-use Rattle.rules.proofs.RuleLaws.{RuleMid}
 use Rattle.meaning.specs.OnePass.{step_bit, step_word}
 use Rattle.grammar.specs.Rules.{LooksBack}
-use Rattle.meaning.proofs.StepTable.{step-last}
-use Rattle.walk.specs.Walk.{looks_ahead, Walked, unread_walk, Asked, unasked_ahead}
+use Rattle.meaning.proofs.StepTable.{step_small, step-last}
+use Rattle.walk.specs.Walk.{looks_ahead, Walked, Asked}
+use Rattle.walk.specs.Visitors.{stepped, looked}
+use Rattle.walk.specs.declared.visitors.Stepping.{Stepping}
+use Rattle.walk.specs.declared.visitors.Looking.{Looking}
 use Rattle.walk.specs.declared.walk.Ahead.{Ahead}
 use Rattle.walk.specs.declared.walk.Walk.{Walk}
-use Rattle.rules.specs.Entries.{entries_before, entries_of, entries_read}
-use Rattle.rules.proofs.EntryLaws.{entries-length, Halted, entries-more, entries-taken-all}
+use Rattle.rules.specs.Entries.{entries_of, entries_read, seen_from, seen}
+use Rattle.rules.proofs.EntryLaws.{entries-taken-all}
 use Rattle.numbers.specs.Bits.{bit}
 
 -- ---- an entry that looks ahead
@@ -48,61 +52,79 @@ back-ahead (e ∷ es) h = rw (h 0 (omega arith), back-ahead es (λ i l. h (suc i
 
 -- ---- along a walk
 
--- Between two turns.
-pub record StepMid (s : List ℕ) (label p q i at : ℕ) (ahead : Bool) (w : ℕ) : Type 0 where
-  pub mid : RuleMid s i at
-  pub few : i ≤ entries_most
-  pub ahead_so : ahead ≡ looks_ahead (entries_before s i)
-  pub word_so : w ≡ step_word (entries_before s i) label p q i
+-- One entry more, as many as before being told.
+suc-length : (ps : List Entry) (x : Entry) → suc (length ps) ≡ length (ps ++ (x ∷ []))
+suc-length ps x = sym (length-append ps (x ∷ []) ∙ add-one (length ps))
 
-pub word_more : (s : List ℕ) (label p q : ℕ) {i at : ℕ} → RuleMid s i at → (on : Bool) (w : ℕ) (e : Entry) (shape : Shape) → e ≡ entry_at s at
-    → shape ≡ shape_of e.kind → w ≡ step_word (entries_before s i) label p q i → on ≡ step_bit shape e.a e.b i label w p q
-    → bit on * 2 ^ i + w ≡ step_word (entries_before s (i + 1)) label p q (i + 1)
-word_more s label p q {i} {at} m on w e shape k is z f =
-    step-last (entries_before s i) e label p q i (entries-length s i) on w z (f ∙ ap (λ (x : Shape). step_bit x e.a e.b i label w p q) is)
-    ∙ ap (λ (es : List Entry). step_word es label p q (i + 1)) (sym (entries-more s m ∙ ap (λ (x : Entry). entries_before s i ++ (x ∷ [])) (sym k)))
+abbrev stepping : (label p q : ℕ) (ahead : Bool) (word : ℕ) → Stepping
+stepping label p q ahead word = record { label = label; parent = p; sibling = q; ahead = ahead; word = word }
 
-pub ahead-then : (s : List ℕ) {i at : ℕ} → RuleMid s i at → (so back : Bool) (e : Entry) (shape : Shape) → e ≡ entry_at s at
-    → shape ≡ shape_of e.kind → so ≡ looks_ahead (entries_before s i) → back ≡ shape_looks_back shape → (so || not back) ≡ looks_ahead (entries_before s (i + 1))
-ahead-then s {i} {at} m so back e shape k is z f = rw (entries-more s m, ← k, z, f, is) (sym (ahead_more (entries_before s i) e))
+module _ (label p q : ℕ) where
+  -- An element that opens, after these entries.
+  abbrev stepped-by : List Entry → Stepping
+  stepped-by ps = stepping label p q (looks_ahead ps) (step_word ps label p q (length ps))
 
--- Where the walk stops.
-pub walk-done : (s : List ℕ) (label p q : ℕ) {i at : ℕ} {ahead : Bool} {w : ℕ} {r : Answer} → StepMid s label p q i at ahead w → Halted s i r
-    → Walked s label p q record { answer = r; ahead = ahead; word = w }
-walk-done s label p q {i} m h =
-    record { answer_is = h.answer_is; ahead_is = rw h.read_is m.ahead_so; word_is = rw (h.read_is, entries-length s i) m.word_so }
+  stepped-once : (ps : List Entry) (x : Entry) → stepped (stepped-by ps) (length ps) x ≡ stepped-by (ps ++ (x ∷ []))
+  stepped-once ps x =
+      ap (λ (b : Bool). stepping label p q b (bit_or w (bit on * 2 ^ length ps))) (sym (ahead_more ps x))
+      ∙ ap (stepping label p q (looks_ahead (ps ++ (x ∷ []))))
+      (or_shifted_r (bit on) (length ps) w (step_small ps label p q (length ps))
+      ∙ step-last ps x label p q (length ps) refl on w refl refl ∙ ap (step_word (ps ++ (x ∷ [])) label p q) (sym (length-append ps (x ∷ []))))
+    where
+      w : ℕ
+      w = step_word ps label p q (length ps)
 
--- Nothing was read.
-pub walk_none : (s : List ℕ) (label p q : ℕ) → entries_read s ≡ [] → Refused 1 0 ≡ rule_answer s → Walked s label p q unread_walk
-unfolding looks_ahead step_word
-walk_none s label p q r a = record { answer_is = a; ahead_is = rw r; word_is = rw r }
+      on : Bool
+      on = step_bit (shape_of x.kind) x.a x.b (length ps) label w p q
+
+  -- And then more.
+  stepped-more : (ps es : List Entry) → seen_from stepped (stepped-by ps) (length ps) es ≡ stepped-by (ps ++ es)
+  unfolding seen_from
+  stepped-more ps [] = ap stepped-by (sym (append-nil ps))
+  stepped-more ps (x ∷ es) =
+      ap (λ (v : Stepping). seen_from stepped v (suc (length ps)) es) (stepped-once ps x)
+      ∙ ap (λ (k : ℕ). seen_from stepped (stepped-by (ps ++ (x ∷ []))) k es) (suc-length ps x)
+      ∙ stepped-more (ps ++ (x ∷ [])) es ∙ ap stepped-by (append_assoc ps (x ∷ []) es)
+
+  -- What a walk gives.
+  pub walk-done : (s : List ℕ) {v : Stepping} {r : Result ℕ Refusal} → answered r ≡ rule_answer s
+      → v ≡ seen stepped (stepping label p q false 0) (entries_read s) → Walked s label p q record { answer = r; ahead = v.ahead; word = v.word }
+  unfolding looks_ahead step_word
+  walk-done s {v} a e =
+      let same : v ≡ stepped-by (entries_read s) = e ∙ stepped-more [] (entries_read s) in
+      record { answer_is = a; ahead_is = ap (λ (x : Stepping). x.ahead) same; word_is = ap (λ (x : Stepping). x.word) same }
 
 -- The same without a step.
-pub record AskMid (s : List ℕ) (i at : ℕ) (ahead : Bool) : Type 0 where
-  pub mid : RuleMid s i at
-  pub few : i ≤ entries_most
-  pub ahead_so : ahead ≡ looks_ahead (entries_before s i)
+abbrev looked-by : List Entry → Looking
+looked-by ps = record { ahead = looks_ahead ps }
 
-pub ask-done : (s : List ℕ) {i at : ℕ} {ahead : Bool} {r : Answer} → AskMid s i at ahead → Halted s i r → Asked s record { answer = r; ahead = ahead }
-ask-done s m h = record { answer_is = h.answer_is; ahead_is = rw h.read_is m.ahead_so }
+looked-more : (ps es : List Entry) (i : ℕ) → seen_from looked (looked-by ps) i es ≡ looked-by (ps ++ es)
+unfolding seen_from
+looked-more ps [] i = ap looked-by (sym (append-nil ps))
+looked-more ps (x ∷ es) i =
+    ap (λ (b : Bool). seen_from looked record { ahead = b } (suc i) es) (sym (ahead_more ps x))
+    ∙ looked-more (ps ++ (x ∷ [])) es (suc i) ∙ ap looked-by (append_assoc ps (x ∷ []) es)
 
-pub ask-none : (s : List ℕ) → entries_read s ≡ [] → Refused 1 0 ≡ rule_answer s → Asked s unasked_ahead
+pub ask-done : (s : List ℕ) {v : Looking} {r : Result ℕ Refusal} → answered r ≡ rule_answer s
+    → v ≡ seen looked record { ahead = false } (entries_read s) → Asked s record { answer = r; ahead = v.ahead }
 unfolding looks_ahead
-ask-none s r a = record { answer_is = a; ahead_is = rw r }
+ask-done s {v} a e =
+    let same : v ≡ looked-by (entries_read s) = e ∙ looked-more [] (entries_read s) 0 in
+    record { answer_is = a; ahead_is = ap (λ (x : Looking). x.ahead) same }
 
 -- ---- an accepted rule: the entries that a walk has read are all its entries
 
 module _ (rule : List ℕ) (n : ℕ) where
   -- Whether one looks ahead.
-  pub walked-ahead : (label p q : ℕ) (r : Walk) → Walked rule label p q r → r.answer ≡ Accepted n → r.ahead ≡ looks_ahead (entries_of rule)
-  walked-ahead label p q r w e = w.ahead_is ∙ ap looks_ahead (entries-taken-all rule n (sym e ∙ w.answer_is))
+  pub walked-ahead : (label p q : ℕ) (r : Walk) → Walked rule label p q r → r.answer ≡ Ok n → r.ahead ≡ looks_ahead (entries_of rule)
+  walked-ahead label p q r w e = w.ahead_is ∙ ap looks_ahead (entries-taken-all rule n (sym (ap answered e) ∙ w.answer_is))
 
   -- Their word.
-  pub walked-word : (label p q : ℕ) (r : Walk) → Walked rule label p q r → r.answer ≡ Accepted n
+  pub walked-word : (label p q : ℕ) (r : Walk) → Walked rule label p q r → r.answer ≡ Ok n
       → r.word ≡ step_word (entries_of rule) label p q (length (entries_of rule))
   walked-word label p q r w e =
-      w.word_is ∙ ap (λ (es : List Entry). step_word es label p q (length es)) (entries-taken-all rule n (sym e ∙ w.answer_is))
+      w.word_is ∙ ap (λ (es : List Entry). step_word es label p q (length es)) (entries-taken-all rule n (sym (ap answered e) ∙ w.answer_is))
 
   -- Whether one looks ahead, without a step.
-  pub asked-ahead : (r : Ahead) → Asked rule r → r.answer ≡ Accepted n → r.ahead ≡ looks_ahead (entries_of rule)
-  asked-ahead r w e = w.ahead_is ∙ ap looks_ahead (entries-taken-all rule n (sym e ∙ w.answer_is))
+  pub asked-ahead : (r : Ahead) → Asked rule r → r.answer ≡ Ok n → r.ahead ≡ looks_ahead (entries_of rule)
+  asked-ahead r w e = w.ahead_is ∙ ap looks_ahead (entries-taken-all rule n (sym (ap answered e) ∙ w.answer_is))

@@ -1,2 +1,3 @@
 -- What one walk of a rule gives.
 pub mod Walk
+pub mod Visitors

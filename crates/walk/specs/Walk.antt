@@ -4,7 +4,7 @@
 -- Shuts out: an entry that looks ahead and is not seen; kinds 11 and 13 one step back only.
 -- Laws: proofs/WalkLaws.antt, proofs/Only.antt. Assumes nothing.
 use Rattle.std.specs.Prelude.{ℕ, ◌≡◌, Bool, false, not, ◌||◌, List, [], ◌∷◌, length}
-use Rattle.terms.specs.Answer.{Refused}
+use Rattle.terms.specs.Answer.{answered}
 use Rattle.entry.specs.declared.entry.Entry.{Entry}
 use Rattle.terms.specs.Kinds.{looks_back}
 use Rattle.rules.specs.Rule.{rule_answer}
@@ -18,20 +18,13 @@ unfoldable pub looks_ahead : List Entry → Bool
 looks_ahead [] = false
 looks_ahead (e ∷ es) = not (looks_back e.kind) || looks_ahead es
 
--- What a walk gives that reads no record.
-abbrev pub unread_walk : Walk
-unread_walk = record { answer = Refused 1 0; ahead = false; word = 0 }
-
 -- The rule's answer; of the entries read, whether one looks ahead, and the step table's word.
 pub record Walked (rule : List ℕ) (label p q : ℕ) (r : Walk) : Type 0 where
-  pub answer_is : r.answer ≡ rule_answer rule
+  pub answer_is : answered r.answer ≡ rule_answer rule
   pub ahead_is : r.ahead ≡ looks_ahead (entries_read rule)
   pub word_is : r.word ≡ step_word (entries_read rule) label p q (length (entries_read rule))
 
 -- The same without a step.
-abbrev pub unasked_ahead : Ahead
-unasked_ahead = record { answer = Refused 1 0; ahead = false }
-
 pub record Asked (rule : List ℕ) (r : Ahead) : Type 0 where
-  pub answer_is : r.answer ≡ rule_answer rule
+  pub answer_is : answered r.answer ≡ rule_answer rule
   pub ahead_is : r.ahead ≡ looks_ahead (entries_read rule)

@@ -3,5 +3,6 @@
 #![tactic(auto)]
 
 mod step;
+mod visitors;
 pub mod walk;
 mod word;

@@ -20,18 +20,18 @@ use Rattle.paths.proofs.Machine.{Expected, byte, test, lettered, alternative, nu
 use Rattle.paths.proofs.Ahead.{ahead}
 use Rattle.paths.proofs.Complete.{run-axis}
 use Rattle.paths.proofs.Descent.{Reads, Stops, spelt, test-space, step-while}
-use Rattle.words.specs.declared.words.Word.{Word}
-use Rattle.words.specs.declared.words.Word.TheVariants.{At, Missing}
+use Rattle.std.specs.Prelude.{Option, Result, Ok, Err}
+use Rattle.words.specs.declared.words.Stray.{Stray}
+use Rattle.words.specs.declared.words.Number.{Number}
 use Rattle.words.specs.declared.begins.Named.{Named}
-use Rattle.words.specs.declared.begins.Named.TheVariants as N
 use Rattle.words.specs.declared.begins.Begin.{Begin}
 use Rattle.words.specs.declared.begins.Begin.TheVariants as B
 use Rattle.words.specs.declared.begins.Start.{Start}
 use Rattle.words.specs.declared.begins.Start.TheVariants as S
-use Rattle.words.specs.Words.{head_of, fixed_at, digits_of}
-use Rattle.words.specs.Begins.{leaf_tree, true_of, label_of, not_of, letters_at, begin_at, named_of, named_at, axis_at, step_of, step_at, start_at}
+use Rattle.words.specs.Words.{head_of, stray, fixed_at, digits_of, number_at}
+use Rattle.words.specs.Begins.{leaf_tree, true_of, leaf_of, label_of, not_of, letters_at, begin_at, named_of, named_at, axis_at, step_of, step_at, start_at}
 use Rattle.words.proofs.Reading.{WordAt, OrAt, NumberAt, Lettered, LettersAt, BeginsAt, AxisAt, StartAt}
-use Rattle.words.proofs.WordLaws.{by-test, front, word-says, number-law}
+use Rattle.words.proofs.WordLaws.{by-test, front, word-law, word-says, number-law}
 use Rattle.terms.specs.Limits.{label_most}
 
 -- ---- what an answer says of reading: `or`
@@ -43,14 +43,14 @@ or-words true K (b ∷ s) = refl
 or-words false K [] = refl
 or-words false K (b ∷ s) = refl
 
-or-law : (w : Bool) (s : List ℕ) (at : ℕ) (r : Word) → WordAt (gap w ++ or_word) s at r → OrAt w s at r
+or-law : (w : Bool) (s : List ℕ) (at : ℕ) (r : Result ℕ Stray) → WordAt (gap w ++ or_word) s at r → OrAt w s at r
 unfolding ascii
-or-law true s at (At e) (a, b, q) = (omega arith, b, q)
-or-law false s at (At e) (a, b, q) = (omega arith, b, q)
-or-law w s at (Missing p) (b, k) = (b, λ K. or-words w K (drop at s) ∙ k w K)
+or-law true s at (Ok e) (a, b, q) = (omega arith, b, q)
+or-law false s at (Ok e) (a, b, q) = (omega arith, b, q)
+or-law w s at (Err p) (b, k) = (b, λ K. or-words w K (drop at s) ∙ k w K)
 
-pub or-says : (w : Bool) (s : List ℕ) (at : ℕ) → at ≤ length s → (r : Word) → r ≡ fixed_at (gap w ++ or_word) s at → OrAt w s at r
-or-says w s at m r e = or-law w s at r (word-says (gap w ++ or_word) s at m r e)
+pub or-says : (w : Bool) (s : List ℕ) (at : ℕ) {r q : Result ℕ Stray} → at ≤ length s → r ≡ fixed_at (gap w ++ or_word) s at → r ≡ q → OrAt w s at q
+or-says w s at {q = q} m e h = or-law w s at q (word-says _ s at m e h)
 
 -- ---- a test that begins with a letter
 
@@ -64,17 +64,17 @@ letters-ask l K = (refl, refl, refl)
 
 module _ (s : List ℕ) (at : ℕ) where
   -- A word that is looked for is there, or it is missing.
-  by_word : at ≤ length s → {A : Type 0} (P : A → Type 0) (x : List ℕ) (f : Word → A) → ((e : ℕ) → WordAt x s at (At e) → P (f (At e)))
-      → ((p : ℕ) → WordAt x s at (Missing p) → P (f (Missing p))) → P (f (fixed_at x s at))
-  by_word m P x f there missing = go (fixed_at x s at) (word-says x s at m _ refl) where
-    go : (r : Word) → WordAt x s at r → P (f r)
-    go (At e) w = there e w
-    go (Missing p) w = missing p w
+  by_word : at ≤ length s → {A : Type 0} (P : A → Type 0) (x : List ℕ) (f : Result ℕ Stray → A) → ((e : ℕ) → WordAt x s at (Ok e) → P (f (Ok e)))
+      → ((p : Stray) → WordAt x s at (Err p) → P (f (Err p))) → P (f (fixed_at x s at))
+  by_word m P x f there missing = go (fixed_at x s at) (word-law x s at m) where
+    go : (r : Result ℕ Stray) → WordAt x s at r → P (f r)
+    go (Ok e) w = there e w
+    go (Err p) w = missing p w
 
   -- A test stops where the word stops that its first letter asks for, whatever is expected behind the word.
   letters-missing : (x : List ℕ) (b : ℕ) (behind : List Expected → List Expected)
       → ((l : List ℕ) (K : List Expected) → run false (lettered ∷ K) (b ∷ l) ≡ run false (spelt x (behind K)) (b ∷ l))
-      → head_of (drop at s) ≡ b → 1 ≤ b → (p : ℕ) → WordAt x s at (Missing p) → LettersAt s at (B.Nothing p)
+      → head_of (drop at s) ≡ b → 1 ≤ b → (p : Stray) → WordAt x s at (Err p) → LettersAt s at (Err p)
   letters-missing x b behind asks h some p (m, k) = (m, λ K. go (drop (at + 1) s) K (front s at b h some).1 ∙ k false (behind K)) where
     go : (l : List ℕ) (K : List Expected) → drop at s ≡ b ∷ l → run false (lettered ∷ K) (drop at s) ≡ run false (spelt x (behind K)) (drop at s)
     go l K q = rw q (asks l K)
@@ -83,11 +83,11 @@ module _ (s : List ℕ) (at : ℕ) where
   unfolding run next choices pick is_word is_digit ascii ahead pieces_t GoodT leaf_tree
   true-leaf r = record { goes = λ K. refl; good = tt; is = λ w. refl }
 
-  true-there : (e : ℕ) → WordAt (ascii "true") s at (At e) → LettersAt s at (B.Leaf e 0)
+  true-there : (e : ℕ) → WordAt (ascii "true") s at (Ok e) → LettersAt s at (Ok (B.Leaf e 0))
   unfolding ascii
   true-there e (a, b, q) = (omega arith, b, rw q (true-leaf (drop e s)))
 
-  not_there : (e : ℕ) → WordAt (ascii "not") s at (At e) → LettersAt s at (B.Not e)
+  not_there : (e : ℕ) → WordAt (ascii "not") s at (Ok e) → LettersAt s at (Ok (B.Not e))
   unfolding ascii run next choices pick is_word is_digit
   not_there e (a, b, q) = (omega arith, b, q, λ K. rw q (go (drop e s) K)) where
     go : (r : List ℕ) (K : List Expected) → run false (lettered ∷ K) (110 ∷ 111 ∷ 116 ∷ r) ≡ run true (test ∷ K) r
@@ -102,16 +102,16 @@ module _ (s : List ℕ) (at : ℕ) where
   label-leaf zero r t l m k q = absurd (omega arith)
   label-leaf (suc n) r t l m k q = record { goes = λ K. label-goes r K ∙ k K; good = (l, m); is = λ w. rw q }
 
-  label-none : (e k v : ℕ) → WordAt (ascii "label ") s at (At e) → k ≡ 0 → NumberAt s e k v → LettersAt s at (B.Nothing e)
+  label-none : (e k v : ℕ) → WordAt (ascii "label ") s at (Ok e) → k ≡ 0 → NumberAt s e k v → LettersAt s at (stray e)
   label-none e zero v (a, b, q) f n = (b, λ K. rw q (label-goes (drop e s) K) ∙ n K)
   label-none e (suc k) v w f n = absurd (omega arith)
 
-  label-there : (e k v : ℕ) → WordAt (ascii "label ") s at (At e) → (k ≡ 0 → ⊥) → NumberAt s e k v → LettersAt s at (B.Leaf (e + k) v)
+  label-there : (e k v : ℕ) → WordAt (ascii "label ") s at (Ok e) → (k ≡ 0 → ⊥) → NumberAt s e k v → LettersAt s at (Ok (B.Leaf (e + k) v))
   label-there e zero v w f n = absurd (f refl)
   label-there e (suc k) v (a, b, q) f (l, g, i, j, d) =
       (omega arith, l, rw q (label-leaf v (drop e s) (drop (e + suc k) s) i j g d))
 
-  letters-none : at ≤ length s → (head_of (drop at s) ≡ 116 → ⊥) → (head_of (drop at s) ≡ 108 → ⊥) → (head_of (drop at s) ≡ 110 → ⊥) → LettersAt s at (B.Nothing at)
+  letters-none : at ≤ length s → (head_of (drop at s) ≡ 116 → ⊥) → (head_of (drop at s) ≡ 108 → ⊥) → (head_of (drop at s) ≡ 110 → ⊥) → LettersAt s at (stray at)
   unfolding head_of run next choices pick ended
   letters-none m h1 h2 h3 = (m, go (drop at s) h1 h2 h3) where
     go : (l : List ℕ) → (head_of l ≡ 116 → ⊥) → (head_of l ≡ 108 → ⊥) → (head_of l ≡ 110 → ⊥) → Stops false lettered l l
@@ -128,13 +128,14 @@ module _ (s : List ℕ) (at : ℕ) where
         by_word m (LettersAt s at) not_word not_of not_there (letters-missing not_word 110 (λ K. test ∷ K) (λ l K. (letters-ask l K).1) h (omega arith))
 
     label-law : head_of (drop at s) ≡ 108 → LettersAt s at (label_of s (fixed_at (ascii "label ") s at))
+    unfolding number_at
     label-law h =
         by_word m (LettersAt s at) (ascii "label ") (label_of s) there
         (letters-missing (ascii "label ") 108 (λ K. number ∷ K) (λ l K. (letters-ask l K).2) h (omega arith)) where
-          there : (e : ℕ) → WordAt (ascii "label ") s at (At e) → LettersAt s at (label_of s (At e))
+          there : (e : ℕ) → WordAt (ascii "label ") s at (Ok e) → LettersAt s at (label_of s (Ok e))
           there e x =
               let n = digits_of (drop e s) in
-              by-test (LettersAt s at) (eqb n 0) (λ t. label-none e n _ x (eqb-true n 0 t) (number-law s e))
+              by-test (λ (o : Option Number). LettersAt s at (leaf_of e o)) (eqb n 0) (λ t. label-none e n _ x (eqb-true n 0 t) (number-law s e))
               (λ t. label-there e n _ x (eqb-false n 0 t) (number-law s e))
 
     letters-law : LettersAt s at (letters_at s at)
@@ -154,19 +155,19 @@ test-lettered [] K h1 h2 = refl
 test-lettered (b ∷ l) K h1 h2 = rw (ne_eqb b 40 h1, ne_eqb b 60 h2)
 
 module _ (s : List ℕ) (at : ℕ) where
-  begins-plain : (r : Begin) → (head_of (drop at s) ≡ 40 → ⊥) → (head_of (drop at s) ≡ 60 → ⊥) → LettersAt s at r → BeginsAt false s at r
-  begins-plain (B.Leaf e n) h1 h2 (l, m, t) =
+  begins-plain : (r : Result Begin Stray) → (head_of (drop at s) ≡ 40 → ⊥) → (head_of (drop at s) ≡ 60 → ⊥) → LettersAt s at r → BeginsAt false s at r
+  begins-plain (Ok (B.Leaf e n)) h1 h2 (l, m, t) =
       record { on = l; within = m; goes = λ K. test-lettered (drop at s) K h1 h2 ∙ t.goes K; good = t.good; reads = t.is false }
-  begins-plain (B.Not e) h1 h2 (l, m, q, k) = (l, m, q, λ K. test-lettered (drop at s) K h1 h2 ∙ k K)
-  begins-plain B.Either h1 h2 x = absurd x
-  begins-plain B.Path h1 h2 x = absurd x
-  begins-plain (B.Nothing p) h1 h2 (m, k) = (m, λ K. test-lettered (drop at s) K h1 h2 ∙ k K)
+  begins-plain (Ok (B.Not e)) h1 h2 (l, m, q, k) = (l, m, q, λ K. test-lettered (drop at s) K h1 h2 ∙ k K)
+  begins-plain (Ok B.Either) h1 h2 x = absurd x
+  begins-plain (Ok B.Path) h1 h2 x = absurd x
+  begins-plain (Err p) h1 h2 (m, k) = (m, λ K. test-lettered (drop at s) K h1 h2 ∙ k K)
 
   spaced : head_of (drop at s) ≡ 32 → (K : List Expected) → run true (test ∷ K) (drop at s) ≡ run false (lettered ∷ K) (drop (at + 1) s)
   spaced h K = let q = (front s at 32 h (omega arith)).1 in rw q (test-space true K (drop (at + 1) s))
 
-  begins-spaced : (r : Begin) → head_of (drop at s) ≡ 32 → LettersAt s (at + 1) r → BeginsAt true s at r
-  begins-spaced (B.Leaf e n) h (l, m, t) =
+  begins-spaced : (r : Result Begin Stray) → head_of (drop at s) ≡ 32 → LettersAt s (at + 1) r → BeginsAt true s at r
+  begins-spaced (Ok (B.Leaf e n)) h (l, m, t) =
       record {
         on = omega arith;
         within = m;
@@ -174,13 +175,13 @@ module _ (s : List ℕ) (at : ℕ) where
         good = t.good;
         reads = (front s at 32 h (omega arith)).1 ∙ t.is true;
       }
-  begins-spaced (B.Not e) h (l, m, q, k) =
+  begins-spaced (Ok (B.Not e)) h (l, m, q, k) =
       (omega arith, m, ((front s at 32 h (omega arith)).1 ∙ ap (◌∷◌ 32) q), λ K. spaced h K ∙ k K)
-  begins-spaced B.Either h x = absurd x
-  begins-spaced B.Path h x = absurd x
-  begins-spaced (B.Nothing p) h (m, k) = (m, λ K. spaced h K ∙ k K)
+  begins-spaced (Ok B.Either) h x = absurd x
+  begins-spaced (Ok B.Path) h x = absurd x
+  begins-spaced (Err p) h (m, k) = (m, λ K. spaced h K ∙ k K)
 
-  begins-none : at ≤ length s → (head_of (drop at s) ≡ 40 → ⊥) → (head_of (drop at s) ≡ 60 → ⊥) → (head_of (drop at s) ≡ 32 → ⊥) → BeginsAt true s at (B.Nothing at)
+  begins-none : at ≤ length s → (head_of (drop at s) ≡ 40 → ⊥) → (head_of (drop at s) ≡ 60 → ⊥) → (head_of (drop at s) ≡ 32 → ⊥) → BeginsAt true s at (stray at)
   unfolding head_of run next choices pick ended
   begins-none m h1 h2 h3 = (m, go (drop at s) h1 h2 h3) where
     go : (l : List ℕ) → (head_of l ≡ 40 → ⊥) → (head_of l ≡ 60 → ⊥) → (head_of l ≡ 32 → ⊥) → Stops true test l l
@@ -195,7 +196,7 @@ module _ (s : List ℕ) (at : ℕ) (m : at ≤ length s) where
       by-test (BeginsAt w s at) (eqb b 40) (λ t. eqb-true b 40 t)
       (λ f1. by-test (BeginsAt w s at) (eqb b 60) (λ t. eqb-true b 60 t) (λ f2. go w (eqb-false b 40 f1) (eqb-false b 60 f2))) where
         go : (w : Bool) → (head_of (drop at s) ≡ 40 → ⊥) → (head_of (drop at s) ≡ 60 → ⊥)
-            → BeginsAt w s at (cond w (cond (eqb (head_of (drop at s)) 32) (letters_at s (at + 1)) (B.Nothing at)) (letters_at s at))
+            → BeginsAt w s at (cond w (cond (eqb (head_of (drop at s)) 32) (letters_at s (at + 1)) (stray at)) (letters_at s at))
         go false h1 h2 = begins-plain s at (letters_at s at) h1 h2 (letters-law s at m)
         go true h1 h2 =
             let b = head_of (drop at s) in
@@ -203,9 +204,9 @@ module _ (s : List ℕ) (at : ℕ) (m : at ≤ length s) where
             (λ t. let h = eqb-true b 32 t in begins-spaced s at (letters_at s (at + 1)) h (letters-law s (at + 1) (omega (arith, (front s at 32 h (omega arith)).0))))
             (λ f. begins-none s at m h1 h2 (eqb-false b 32 f))
 
-  -- What a test begins with.
-  pub begins-says : (w : Bool) (r : Begin) → r ≡ begin_at w s at → BeginsAt w s at r
-  begins-says w r e = rw e (begin-law w)
+-- What a test begins with.
+pub begins-says : (w : Bool) (s : List ℕ) (at : ℕ) {r q : Result Begin Stray} → at ≤ length s → r ≡ begin_at w s at → r ≡ q → BeginsAt w s at q
+begins-says w s at m e h = rw (← h, e) (begin-law s at m w)
 
 -- ---- axes
 
@@ -247,7 +248,7 @@ module _ (s : List ℕ) (at : ℕ) where
       by_word s at m (AxisAt s at) (axis_word a) (named_of (neighbour_kind a)) (λ e (f, l, q). (omega (arith, axis-long a), l, (a, refl, q)))
       (λ p (l, k). (l, λ K. axis-stops a (drop at s) K h ∙ k false K))
 
-  axis-none : at ≤ length s → (head_of (drop at s) ≡ 99 → ⊥) → (head_of (drop at s) ≡ 112 → ⊥) → (head_of (drop at s) ≡ 114 → ⊥) → (head_of (drop at s) ≡ 108 → ⊥) → AxisAt s at (N.None at)
+  axis-none : at ≤ length s → (head_of (drop at s) ≡ 99 → ⊥) → (head_of (drop at s) ≡ 112 → ⊥) → (head_of (drop at s) ≡ 114 → ⊥) → (head_of (drop at s) ≡ 108 → ⊥) → AxisAt s at (stray at)
   unfolding head_of run next choices pick ended
   axis-none m h1 h2 h3 h4 = (m, go (drop at s) h1 h2 h3 h4) where
     go : (l : List ℕ) → (head_of l ≡ 99 → ⊥) → (head_of l ≡ 112 → ⊥) → (head_of l ≡ 114 → ⊥) → (head_of l ≡ 108 → ⊥) → Stops false axis l l
@@ -290,32 +291,32 @@ until-form right = refl
 until-form left = refl
 
 module _ (s : List ℕ) (at : ℕ) (h1 : head_of (drop at s) ≡ 63 → ⊥) (h2 : head_of (drop at s) ≡ 40 → ⊥) where
-  plain-missing : (p : ℕ) → AxisAt s at (N.None p) → StartAt s at (S.Stray p)
+  plain-missing : (p : Stray) → AxisAt s at (Err p) → StartAt s at (Err p)
   plain-missing p (m, k) = (m, λ K. path-axis (drop at s) K h1 h2 ∙ k (after_axis ∷ K))
 
   goes-along : (a : Axis) (e : ℕ) → drop at s ≡ axis_word a ++ drop e s → (K : List Expected) → run false (path ∷ K) (drop at s) ≡ run true (after_axis ∷ K) (drop e s)
   goes-along a e q K = path-axis (drop at s) K h1 h2 ∙ rw q (run-axis (after_axis ∷ K) a (drop e s))
 
-  plain-star : (e k : ℕ) → AxisAt s at (N.Axis e k) → head_of (drop e s) ≡ 42 → StartAt s at (S.Plain (e + 1) false (k + 4))
+  plain-star : (n : Named) → AxisAt s at (Ok n) → head_of (drop n.end s) ≡ 42 → StartAt s at (Ok (S.Plain (n.end + 1) false (n.kind + 4)))
   unfolding ahead pieces_t sign_byte
-  plain-star e k (l, m, (a, i, q)) h =
-      let (n, r) = front s e 42 h (omega arith) in (
+  plain-star n (l, m, (a, i, q)) h =
+      let (j, r) = front s n.end 42 h (omega arith) in (
         omega arith,
         omega arith,
-        λ K. goes-along a e q K ∙ rw r (after-star (drop (e + 1) s) K),
+        λ K. goes-along a n.end q K ∙ rw r (after-star (drop (n.end + 1) s) K),
         record { named = a; reads = q ∙ rw r; is_form = rw i (until-form a) },
       )
 
-  plain-there : (e k : ℕ) → AxisAt s at (N.Axis e k) → (head_of (drop e s) ≡ 42 → ⊥) → StartAt s at (S.Plain e true k)
+  plain-there : (n : Named) → AxisAt s at (Ok n) → (head_of (drop n.end s) ≡ 42 → ⊥) → StartAt s at (Ok (S.Plain n.end true n.kind))
   unfolding ahead pieces_t
-  plain-there e k (l, m, (a, i, q)) h =
-      (l, m, λ K. goes-along a e q K ∙ after-axis (drop e s) K h, record { named = a; reads = q; is_form = i })
+  plain-there n (l, m, (a, i, q)) h =
+      (l, m, λ K. goes-along a n.end q K ∙ after-axis (drop n.end s) K h, record { named = a; reads = q; is_form = i })
 
-  plain-law : (r : Named) → AxisAt s at r → StartAt s at (step_of s r false)
-  plain-law (N.None p) x = plain-missing p x
-  plain-law (N.Axis e k) x =
-      let b = head_of (drop e s) in
-      by-test (StartAt s at) (eqb b 42) (λ t. plain-star e k x (eqb-true b 42 t)) (λ f. plain-there e k x (eqb-false b 42 f))
+  plain-law : (r : Result Named Stray) → AxisAt s at r → StartAt s at (step_of s r false)
+  plain-law (Err p) x = plain-missing p x
+  plain-law (Ok n) x =
+      let b = head_of (drop n.end s) in
+      by-test (StartAt s at) (eqb b 42) (λ t. plain-star n x (eqb-true b 42 t)) (λ f. plain-there n x (eqb-false b 42 f))
 
 -- (AXIS?
 question-goes : (l : List ℕ) (K : List Expected) → run true (byte 63 ∷ K) (63 ∷ l) ≡ run false K l
@@ -337,30 +338,30 @@ module _ (s : List ℕ) (at : ℕ) (h : head_of (drop at s) ≡ 40) where
   asked : (e : ℕ) → head_of (drop e s) ≡ 63 → (K : List Expected) → run true (byte 63 ∷ K) (drop e s) ≡ run false K (drop (e + 1) s)
   asked e g K = let r = (front s e 63 g (omega arith)).1 in rw r (question-goes (drop (e + 1) s) K)
 
-  while-missing : (p : ℕ) → AxisAt s (at + 1) (N.None p) → StartAt s at (S.Stray p)
+  while-missing : (p : Stray) → AxisAt s (at + 1) (Err p) → StartAt s at (Err p)
   while-missing p (m, k) = (m, λ K. opened K ∙ k _)
 
-  while-stray : (e k : ℕ) → AxisAt s (at + 1) (N.Axis e k) → (head_of (drop e s) ≡ 63 → ⊥) → StartAt s at (S.Stray e)
-  while-stray e k (l, m, (a, i, q)) g = (m, λ K. opened K ∙ axis-read a e q _ ∙ question-stops (drop e s) _ g)
+  while-stray : (n : Named) → AxisAt s (at + 1) (Ok n) → (head_of (drop n.end s) ≡ 63 → ⊥) → StartAt s at (stray n.end)
+  while-stray n (l, m, (a, i, q)) g = (m, λ K. opened K ∙ axis-read a n.end q _ ∙ question-stops (drop n.end s) _ g)
 
-  while-there : (e k : ℕ) → AxisAt s (at + 1) (N.Axis e k) → head_of (drop e s) ≡ 63 → StartAt s at (S.While (e + 1) (k + 8))
-  while-there e k (l, m, (a, i, q)) g =
-      let (n, r) = front s e 63 g (omega arith) in (
+  while-there : (n : Named) → AxisAt s (at + 1) (Ok n) → head_of (drop n.end s) ≡ 63 → StartAt s at (Ok (S.While (n.end + 1) (n.kind + 8)))
+  while-there n (l, m, (a, i, q)) g =
+      let (j, r) = front s n.end 63 g (omega arith) in (
         omega arith,
         omega arith,
         record {
           along = a;
-          goes = λ K. opened K ∙ axis-read a e q _ ∙ asked e g _;
+          goes = λ K. opened K ∙ axis-read a n.end q _ ∙ asked n.end g _;
           reads = (front s at 40 h (omega arith)).1 ∙ ap (◌∷◌ 40) (q ∙ ap (λ (x : List ℕ). axis_word a ++ x) r);
           is_form = omega (arith, i);
         },
       )
 
-  while-law : (r : Named) → AxisAt s (at + 1) r → StartAt s at (step_of s r true)
-  while-law (N.None p) x = while-missing p x
-  while-law (N.Axis e k) x =
-      let b = head_of (drop e s) in
-      by-test (StartAt s at) (eqb b 63) (λ t. while-there e k x (eqb-true b 63 t)) (λ f. while-stray e k x (eqb-false b 63 f))
+  while-law : (r : Result Named Stray) → AxisAt s (at + 1) r → StartAt s at (step_of s r true)
+  while-law (Err p) x = while-missing p x
+  while-law (Ok n) x =
+      let b = head_of (drop n.end s) in
+      by-test (StartAt s at) (eqb b 63) (λ t. while-there n x (eqb-true b 63 t)) (λ f. while-stray n x (eqb-false b 63 f))
 
 module _ (s : List ℕ) (at : ℕ) (m : at ≤ length s) where
   start-law : StartAt s at (start_at s at)
@@ -374,6 +375,6 @@ module _ (s : List ℕ) (at : ℕ) (m : at ≤ length s) where
         go false i h =
             let z : at + 0 ≡ at = omega arith in rw z (plain-law s at h (eqb-false (head_of (drop at s)) 40 i) (axis_at s at) (axis-law s at m))
 
-  -- What a step begins with.
-  pub start-says : (r : Start) → r ≡ start_at s at → StartAt s at r
-  start-says r e = rw e start-law
+-- What a step begins with.
+pub start-says : (s : List ℕ) (at : ℕ) {r q : Result Start Stray} → at ≤ length s → r ≡ start_at s at → r ≡ q → StartAt s at q
+start-says s at m e h = rw (← h, e) (start-law s at m)

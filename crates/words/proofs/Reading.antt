@@ -14,10 +14,9 @@ use Rattle.paths.specs.Translation.{neighbour_kind, until_kind}
 use Rattle.paths.proofs.Machine.{Expected, test, lettered, alternative, number, path, axis, after_step, byte, stopped, run}
 use Rattle.paths.proofs.Ahead.{ahead}
 use Rattle.paths.proofs.Descent.{Reads, Stops, spelt}
-use Rattle.words.specs.declared.words.Word.{Word}
-use Rattle.words.specs.declared.words.Word.TheVariants.{At, Missing}
+use Rattle.std.specs.Prelude.{Result, Ok, Err}
+use Rattle.words.specs.declared.words.Stray.{Stray}
 use Rattle.words.specs.declared.begins.Named.{Named}
-use Rattle.words.specs.declared.begins.Named.TheVariants as N
 use Rattle.words.specs.declared.begins.Begin.{Begin}
 use Rattle.words.specs.declared.begins.Begin.TheVariants as B
 use Rattle.words.specs.declared.begins.Start.{Start}
@@ -28,14 +27,14 @@ use Rattle.words.specs.Begins.{leaf_tree}
 -- ---- words and numbers
 
 -- The word stands at the cursor and ends there; or reading it stops at a place.
-abbrev pub WordAt : (x s : List ℕ) (at : ℕ) → Word → Type 0
-WordAt x s at (At e) = (e ≡ at + length x) × (e ≤ length s) × (drop at s ≡ x ++ drop e s)
-WordAt x s at (Missing p) = (p ≤ length s) × ((w : Bool) (K : List Expected) → run w (spelt x K) (drop at s) ≡ stopped (drop p s))
+abbrev pub WordAt : (x s : List ℕ) (at : ℕ) → Result ℕ Stray → Type 0
+WordAt x s at (Ok e) = (e ≡ at + length x) × (e ≤ length s) × (drop at s ≡ x ++ drop e s)
+WordAt x s at (Err p) = (p.place ≤ length s) × ((w : Bool) (K : List Expected) → run w (spelt x K) (drop at s) ≡ stopped (drop p.place s))
 
 -- .. `or`, behind its space if a word stands before.
-abbrev pub OrAt : (after : Bool) (s : List ℕ) (at : ℕ) → Word → Type 0
-OrAt w s at (At e) = (at + 2 ≤ e) × (e ≤ length s) × (drop at s ≡ gap w ++ (or_word ++ drop e s))
-OrAt w s at (Missing p) = (p ≤ length s) × Stops w alternative (drop at s) (drop p s)
+abbrev pub OrAt : (after : Bool) (s : List ℕ) (at : ℕ) → Result ℕ Stray → Type 0
+OrAt w s at (Ok e) = (at + 2 ≤ e) × (e ≤ length s) × (drop at s ≡ gap w ++ (or_word ++ drop e s))
+OrAt w s at (Err p) = (p.place ≤ length s) × Stops w alternative (drop at s) (drop p.place s)
 
 -- A number of so many digits and this value; or no number can stand there.
 abbrev pub NumberAt : (s : List ℕ) (at digits value : ℕ) → Type 0
@@ -53,13 +52,13 @@ pub record Lettered (s r : List ℕ) (label : ℕ) : Type 0 where
   pub is : (w : Bool) → gap w ++ s ≡ ahead w (pieces_t (leaf_tree label) []) r
 
 -- A test that begins with a letter.
-abbrev pub LettersAt : (s : List ℕ) (at : ℕ) → Begin → Type 0
-LettersAt s at (B.Leaf e l) = (at < e) × (e ≤ length s) × Lettered (drop at s) (drop e s) l
-LettersAt s at (B.Not e) =
+abbrev pub LettersAt : (s : List ℕ) (at : ℕ) → Result Begin Stray → Type 0
+LettersAt s at (Ok (B.Leaf e l)) = (at < e) × (e ≤ length s) × Lettered (drop at s) (drop e s) l
+LettersAt s at (Ok (B.Not e)) =
     (at < e) × (e ≤ length s) × (drop at s ≡ not_word ++ drop e s) × ((K : List Expected) → run false (lettered ∷ K) (drop at s) ≡ run true (test ∷ K) (drop e s))
-LettersAt s at B.Either = ⊥
-LettersAt s at B.Path = ⊥
-LettersAt s at (B.Nothing p) = (p ≤ length s) × Stops false lettered (drop at s) (drop p s)
+LettersAt s at (Ok B.Either) = ⊥
+LettersAt s at (Ok B.Path) = ⊥
+LettersAt s at (Err p) = (p.place ≤ length s) × Stops false lettered (drop at s) (drop p.place s)
 
 -- A test of one word at a cursor.
 pub record LeafAt (w : Bool) (s : List ℕ) (at e label : ℕ) : Type 0 where
@@ -70,20 +69,21 @@ pub record LeafAt (w : Bool) (s : List ℕ) (at e label : ℕ) : Type 0 where
   pub reads : drop at s ≡ ahead w (pieces_t (leaf_tree label) []) (drop e s)
 
 -- A test.
-abbrev pub BeginsAt : (after : Bool) (s : List ℕ) (at : ℕ) → Begin → Type 0
-BeginsAt w s at (B.Leaf e l) = LeafAt w s at e l
-BeginsAt w s at (B.Not e) =
+abbrev pub BeginsAt : (after : Bool) (s : List ℕ) (at : ℕ) → Result Begin Stray → Type 0
+BeginsAt w s at (Ok (B.Leaf e l)) = LeafAt w s at e l
+BeginsAt w s at (Ok (B.Not e)) =
     (at < e) × (e ≤ length s) × (drop at s ≡ gap w ++ (not_word ++ drop e s)) × ((K : List Expected) → run w (test ∷ K) (drop at s) ≡ run true (test ∷ K) (drop e s))
-BeginsAt w s at B.Either = head_of (drop at s) ≡ 40
-BeginsAt w s at B.Path = head_of (drop at s) ≡ 60
-BeginsAt w s at (B.Nothing p) = (p ≤ length s) × Stops w test (drop at s) (drop p s)
+BeginsAt w s at (Ok B.Either) = head_of (drop at s) ≡ 40
+BeginsAt w s at (Ok B.Path) = head_of (drop at s) ≡ 60
+BeginsAt w s at (Err p) = (p.place ≤ length s) × Stops w test (drop at s) (drop p.place s)
 
 -- ---- what a step begins with
 
 -- An axis.
-abbrev pub AxisAt : (s : List ℕ) (at : ℕ) → Named → Type 0
-AxisAt s at (N.Axis e k) = (at + 4 ≤ e) × (e ≤ length s) × ((a : Axis) × (k ≡ neighbour_kind a) × (drop at s ≡ axis_word a ++ drop e s))
-AxisAt s at (N.None p) = (p ≤ length s) × Stops false axis (drop at s) (drop p s)
+abbrev pub AxisAt : (s : List ℕ) (at : ℕ) → Result Named Stray → Type 0
+AxisAt s at (Ok n) =
+    (at + 4 ≤ n.end) × (n.end ≤ length s) × ((a : Axis) × (n.kind ≡ neighbour_kind a) × (drop at s ≡ axis_word a ++ drop n.end s))
+AxisAt s at (Err p) = (p.place ≤ length s) × Stops false axis (drop at s) (drop p.place s)
 
 -- A step is read from s, and r is left.
 abbrev pub StepReads : (s : List ℕ) (behind : Bool) (r : List ℕ) → Type 0
@@ -113,8 +113,8 @@ pub record While (s r : List ℕ) (form : ℕ) : Type 0 where
   pub is_form : form ≡ 8 + neighbour_kind along
 
 -- A step.
-abbrev pub StartAt : (s : List ℕ) (at : ℕ) → Start → Type 0
-StartAt s at (S.Plain e v form) = (at + 4 ≤ e) × (e ≤ length s) × StepReads (drop at s) v (drop e s) × PlainIs (drop at s) (drop e s) v form
-StartAt s at S.Test = head_of (drop at s) ≡ 63
-StartAt s at (S.While e form) = (at + 6 ≤ e) × (e ≤ length s) × While (drop at s) (drop e s) form
-StartAt s at (S.Stray p) = (p ≤ length s) × Stops false path (drop at s) (drop p s)
+abbrev pub StartAt : (s : List ℕ) (at : ℕ) → Result Start Stray → Type 0
+StartAt s at (Ok (S.Plain e v form)) = (at + 4 ≤ e) × (e ≤ length s) × StepReads (drop at s) v (drop e s) × PlainIs (drop at s) (drop e s) v form
+StartAt s at (Ok S.Test) = head_of (drop at s) ≡ 63
+StartAt s at (Ok (S.While e form)) = (at + 6 ≤ e) × (e ≤ length s) × While (drop at s) (drop e s) form
+StartAt s at (Err p) = (p.place ≤ length s) × Stops false path (drop at s) (drop p.place s)

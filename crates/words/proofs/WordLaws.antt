@@ -19,9 +19,10 @@ use Rattle.paths.proofs.Machine.{number, run, next, ended, is_digit}
 use Rattle.paths.proofs.Complete.{NoDigit, two-over, one-over, first-digit, second-digit, third-digit}
 use Rattle.paths.proofs.Sound.{decimal-behind}
 use Rattle.paths.proofs.Descent.{Stops, agree, word-stops}
-use Rattle.words.specs.declared.words.Word.{Word}
-use Rattle.words.specs.declared.words.Word.TheVariants.{At, Missing}
-use Rattle.words.specs.Words.{head_of, digit_from, fixed_at, no_digit, digit_of, digits_of, numeral_of}
+use Rattle.std.specs.Prelude.{Option, Some, None, Result, Ok}
+use Rattle.words.specs.declared.words.Stray.{Stray}
+use Rattle.words.specs.declared.words.Number.{Number}
+use Rattle.words.specs.Words.{head_of, digit_from, stray, fixed_at, digit_of, digits_of, numeral_of, number_at}
 use Rattle.words.proofs.Reading.{WordAt, NumberAt}
 
 -- ---- tests
@@ -117,33 +118,33 @@ module _ (x s : List ℕ) (at : ℕ) where
   agree-past l = rw (drop_of_length-le s l) (sym (agree-nil x))
 
   module _ (k : ℕ) (e : k ≡ agree x (drop at s)) where
-    pub word-whole : k ≡ length x → At (at + k) ≡ fixed_at x s at
+    pub word-whole : k ≡ length x → Ok (at + k) ≡ fixed_at x s at
     unfolding fixed_at
     word-whole f = rw (← e, eq-eqb k (length x) f)
 
-    pub word_cut : (k ≡ length x → ⊥) → Missing (at + k) ≡ fixed_at x s at
+    pub word_cut : (k ≡ length x → ⊥) → stray (at + k) ≡ fixed_at x s at
     unfolding fixed_at
     word_cut f = rw (← e, ne_eqb k (length x) f)
 
   module _ (inside : at ≤ length s) where
-    word-law : WordAt x s at (fixed_at x s at)
+    pub word-law : WordAt x s at (fixed_at x s at)
     unfolding fixed_at
     word-law = by-test (WordAt x s at) (eqb (agree x (drop at s)) (length x)) there missing where
-      there : eqb (agree x (drop at s)) (length x) ≡ true → WordAt x s at (At (at + agree x (drop at s)))
+      there : eqb (agree x (drop at s)) (length x) ≡ true → WordAt x s at (Ok (at + agree x (drop at s)))
       there t =
           let f = eqb-true (agree x (drop at s)) (length x) t in
           (omega (arith, f), omega (arith, agree-fits), agree-all x (drop at s) f ∙ rw (f, drop-drop (length x) at s))
 
-      missing : eqb (agree x (drop at s)) (length x) ≡ false → WordAt x s at (Missing (at + agree x (drop at s)))
+      missing : eqb (agree x (drop at s)) (length x) ≡ false → WordAt x s at (stray (at + agree x (drop at s)))
       missing t =
           let f = eqb-false (agree x (drop at s)) (length x) t in (
             omega (arith, agree-fits),
             λ w K. word-stops x (drop at s) w K (lt_of_le-ne (agree-most x (drop at s)).0 f) ∙ rw (drop-drop (agree x (drop at s)) at s),
           )
 
-    -- What a word that was looked for says.
-    pub word-says : (r : Word) → r ≡ fixed_at x s at → WordAt x s at r
-    word-says r e = rw e word-law
+-- What a word that was looked for says, found or not.
+pub word-says : (x s : List ℕ) (at : ℕ) {r q : Result ℕ Stray} → at ≤ length s → r ≡ fixed_at x s at → r ≡ q → WordAt x s at q
+word-says x s at m e h = rw (← h, e) (word-law x s at m)
 
 -- ---- numbers
 
@@ -157,28 +158,32 @@ pub digit-byte : (low b : ℕ) → (leb low b && leb b 57) ≡ true → (low ≤
 digit-byte low b e = let h = and-true _ _ e in (leb-true low b h.0, leb-true b 57 h.1)
 
 module _ (low : ℕ) (l : List ℕ) where
-  pub digit-is : (b : ℕ) → b ≡ head_of l → (leb low b && leb b 57) ≡ true → (b - 48 ≡ digit_of low l) × (b - 48 ≤ no_digit)
+  pub digit-is : (b : ℕ) → b ≡ head_of l → (leb low b && leb b 57) ≡ true → Some (b - 48) ≡ digit_of low l
   unfolding digit_from digit_of
-  digit-is b e t = (rw (← e, t), omega (arith, digit-byte low b t))
+  digit-is b e t = rw (← e, t)
 
-  pub digit_not : (b : ℕ) → b ≡ head_of l → (leb low b && leb b 57) ≡ false → no_digit ≡ digit_of low l
+  pub digit_not : (b : ℕ) → b ≡ head_of l → (leb low b && leb b 57) ≡ false → None ≡ digit_of low l
   unfolding digit_from digit_of
   digit_not b e t = rw (← e, t)
 
-  module _ (d : ℕ) (e : d ≡ digit_of low l) where
-    pub digit-none : d ≡ no_digit → digit_from low l ≡ false
-    unfolding digit_from digit_of
-    digit-none h = go (leb low (head_of l) && leb (head_of l) 57) refl e where
-      go : (t : Bool) → (leb low (head_of l) && leb (head_of l) 57) ≡ t → d ≡ cond t (head_of l - 48) no_digit → t ≡ false
-      go true t q = absurd (omega (arith, h, q, digit-byte low (head_of l) t))
+  module _ (r : Option ℕ) (e : r ≡ digit_of low l) where
+    digit-none : r ≡ None → digit_from low l ≡ false
+    unfolding digit_of
+    digit-none h = go (digit_from low l) refl e where
+      go : (t : Bool) → digit_from low l ≡ t → r ≡ cond t (Some (head_of l - 48)) None → t ≡ false
+      go true t q = absurd (cc)
       go false t q = refl
 
-    pub digit-some : (d ≡ no_digit → ⊥) → (digit_from low l ≡ true) × (d ≡ head_of l - 48)
+    digit-some : (d : ℕ) → r ≡ Some d → (digit_from low l ≡ true) × (d ≡ head_of l - 48)
     unfolding digit_of
-    digit-some h = go (digit_from low l) e where
-      go : (t : Bool) → d ≡ cond t (head_of l - 48) no_digit → (t ≡ true) × (d ≡ head_of l - 48)
-      go true q = (refl, q)
-      go false q = absurd (h q)
+    digit-some d h = go (digit_from low l) e where
+      go : (t : Bool) → r ≡ cond t (Some (head_of l - 48)) None → (t ≡ true) × (d ≡ head_of l - 48)
+      go true q = (refl, cc)
+      go false q = absurd (cc)
+
+-- There is a byte where there is a digit.
+pub digit-there : (s : List ℕ) (at low b : ℕ) → 48 ≤ low → b ≡ head_of (drop at s) → (leb low b && leb b 57) ≡ true → at < length s
+digit-there s at low b l e t = (front s at b (sym e) (omega (arith, digit-byte low b t))).0
 
 module _ (s : List ℕ) where
   -- A digit at the cursor, by what it counts.
@@ -246,8 +251,8 @@ module _ (s : List ℕ) where
 
 -- The tests of three bytes give the digits of a number, and what the digits count gives its value.
 module _ (s : List ℕ) (at : ℕ) where
-  abbrev pub Number : ℕ → ℕ → Type 0
-  Number k v = (k ≡ digits_of (drop at s)) × (v ≡ numeral_of (drop at s))
+  abbrev Numeral : ℕ → ℕ → Type 0
+  Numeral k v = (k ≡ digits_of (drop at s)) × (v ≡ numeral_of (drop at s))
 
   -- The value of so many digits.
   value-one : (v : ℕ) (t : List ℕ) → 1 ≡ digits_of (drop at s) → drop at s ≡ digit v ∷ t → v ≡ numeral_of (drop at s)
@@ -276,23 +281,23 @@ module _ (s : List ℕ) (at : ℕ) where
     unfolding digits_of
     count-three f g = rw (e, drop-drop 1 at s, f, drop-drop 2 at s, g)
 
-  no_number : digit_from 49 (drop at s) ≡ false → Number 0 0
+  no_number : digit_from 49 (drop at s) ≡ false → Numeral 0 0
   unfolding digits_of numeral_of value_from
   no_number e = (rw e, rw e)
 
-  one-digit : (v : ℕ) → digit_from 49 (drop at s) ≡ true → digit_from 48 (drop (at + 1) s) ≡ false → v ≡ head_of (drop at s) - 48 → Number 1 v
+  one-digit : (v : ℕ) → digit_from 49 (drop at s) ≡ true → digit_from 48 (drop (at + 1) s) ≡ false → v ≡ head_of (drop at s) - 48 → Numeral 1 v
   one-digit v e f x =
       let n = count-one e f in (n, value-one v _ n (digit-front s 49 at v (omega arith) e x).3)
 
   two_digits : (v w : ℕ) → digit_from 49 (drop at s) ≡ true → digit_from 48 (drop (at + 1) s) ≡ true → digit_from 48 (drop (at + 2) s) ≡ false
-      → v ≡ head_of (drop at s) - 48 → w ≡ head_of (drop (at + 1) s) - 48 → Number 2 (10 * v + w)
+      → v ≡ head_of (drop at s) - 48 → w ≡ head_of (drop (at + 1) s) - 48 → Numeral 2 (10 * v + w)
   two_digits v w e f g x y =
       let n = count-two e f g in
       let q = (digit-front s 49 at v (omega arith) e x).3 in
       let r = (digit-front s 48 (at + 1) w (omega arith) f y).3 in (n, value-two v w _ n (q ∙ ap (◌∷◌ (digit v)) r))
 
   three-digits : (v w u : ℕ) → digit_from 49 (drop at s) ≡ true → digit_from 48 (drop (at + 1) s) ≡ true → digit_from 48 (drop (at + 2) s) ≡ true
-      → v ≡ head_of (drop at s) - 48 → w ≡ head_of (drop (at + 1) s) - 48 → u ≡ head_of (drop (at + 2) s) - 48 → Number 3 (10 * (10 * v + w) + u)
+      → v ≡ head_of (drop at s) - 48 → w ≡ head_of (drop (at + 1) s) - 48 → u ≡ head_of (drop (at + 2) s) - 48 → Numeral 3 (10 * (10 * v + w) + u)
   three-digits v w u e f g x y z =
       let n = count-three e f g in
       let j : at + 1 + 1 ≡ at + 2 = omega arith in
@@ -301,7 +306,7 @@ module _ (s : List ℕ) (at : ℕ) where
       let o = (digit-front s 48 (at + 2) u (omega arith) g z).3 in
       (n, value-three v w u _ n (q ∙ ap (◌∷◌ (digit v)) (r ∙ ap (◌∷◌ (digit w)) o)))
 
-  same_number : (k v : ℕ) → Number k v → NumberAt s at k v → NumberAt s at (digits_of (drop at s)) (numeral_of (drop at s))
+  same_number : (k v : ℕ) → Numeral k v → NumberAt s at k v → NumberAt s at (digits_of (drop at s)) (numeral_of (drop at s))
   same_number k v (e, f) h =
       subst (λ (n : ℕ). NumberAt s at n (numeral_of (drop at s))) e (subst (λ (m : ℕ). NumberAt s at k m) f h)
 
@@ -316,34 +321,46 @@ module _ (s : List ℕ) (at : ℕ) where
     go true e true f true g = same_number 3 _ (three-digits _ _ _ e f g refl refl refl) (number-three s at _ _ _ e f g refl refl refl)
 
   -- The digits stand before the end.
-  pub digits-fit : at + digits_of (drop at s) ≤ at + (length s - at)
+  digits-fit : at + digits_of (drop at s) ≤ at + (length s - at)
   digits-fit = go (digits_of (drop at s)) number-law where
     go : (k : ℕ) → NumberAt s at k (numeral_of (drop at s)) → at + k ≤ at + (length s - at)
     go zero h = omega arith
     go (suc k) h = omega (arith, h.0)
 
 -- From what the code has of three digits.
-module _ (s : List ℕ) (at v : ℕ) (x : v ≡ digit_of 49 (drop at s)) where
-  pub none_found : v ≡ no_digit → Number s at 0 0
-  none_found h = no_number s at (digit-none 49 (drop at s) v x h)
+module _ (s : List ℕ) (at : ℕ) where
+  made : (k v : ℕ) → Numeral s at (suc k) v → Some (record { digits = suc k; value = v }) ≡ number_at (drop at s)
+  unfolding number_at
+  made k v (e, f) = rw (← e, ← f, ne_eqb (suc k) 0 (λ h. omega arith))
 
-  module _ (h : v ≡ no_digit → ⊥) (w : ℕ) (y : w ≡ digit_of 48 (drop (at + 1) s)) where
-    pub one_found : w ≡ no_digit → Number s at 1 v
-    one_found i =
-        let (e, a) = digit-some 49 (drop at s) v x h in one-digit s at v e (digit-none 48 (drop (at + 1) s) w y i) a
+  module _ (one : Option ℕ) (x : one ≡ digit_of 49 (drop at s)) where
+    pub none_found : one ≡ None → None ≡ number_at (drop at s)
+    unfolding number_at
+    none_found h = let e = (no_number s at (digit-none 49 (drop at s) one x h)).0 in rw (← e)
 
-    module _ (i : w ≡ no_digit → ⊥) (u : ℕ) (z : u ≡ digit_of 48 (drop (at + 2) s)) where
-      pub two-found : u ≡ no_digit → Number s at 2 (10 * v + w)
-      two-found j =
-          let (e, a) = digit-some 49 (drop at s) v x h in
-          let (f, b) = digit-some 48 (drop (at + 1) s) w y i in two_digits s at v w e f (digit-none 48 (drop (at + 2) s) u z j) a b
+    module _ (v : ℕ) (h : one ≡ Some v) (two : Option ℕ) (y : two ≡ digit_of 48 (drop (at + 1) s)) where
+      pub one_found : two ≡ None → Some (record { digits = 1; value = v }) ≡ number_at (drop at s)
+      one_found i =
+          let (e, a) = digit-some 49 (drop at s) one x v h in made 0 v (one-digit s at v e (digit-none 48 (drop (at + 1) s) two y i) a)
 
-      pub three-found : (u ≡ no_digit → ⊥) → Number s at 3 (10 * (10 * v + w) + u)
-      three-found j =
-          let (e, a) = digit-some 49 (drop at s) v x h in
-          let (f, b) = digit-some 48 (drop (at + 1) s) w y i in
-          let (g, c) = digit-some 48 (drop (at + 2) s) u z j in three-digits s at v w u e f g a b c
+      module _ (w : ℕ) (i : two ≡ Some w) (three : Option ℕ) (z : three ≡ digit_of 48 (drop (at + 2) s)) where
+        pub two-found : three ≡ None → Some (record { digits = 2; value = 10 * v + w }) ≡ number_at (drop at s)
+        two-found j =
+            let (e, a) = digit-some 49 (drop at s) one x v h in
+            let (f, b) = digit-some 48 (drop (at + 1) s) two y w i in
+            made 1 _ (two_digits s at v w e f (digit-none 48 (drop (at + 2) s) three z j) a b)
 
--- There is a byte where there is a digit.
-pub digit-there : (s : List ℕ) (at low d : ℕ) → 48 ≤ low → d ≡ digit_of low (drop at s) → (d ≡ no_digit → ⊥) → at < length s
-digit-there s at low d l e h = let (f, x) = digit-some low (drop at s) d e h in (digit-front s low at d l f x).2
+        pub three-found : (u : ℕ) → three ≡ Some u → Some (record { digits = 3; value = 10 * (10 * v + w) + u }) ≡ number_at (drop at s)
+        three-found u j =
+            let (e, a) = digit-some 49 (drop at s) one x v h in
+            let (f, b) = digit-some 48 (drop (at + 1) s) two y w i in
+            let (g, c) = digit-some 48 (drop (at + 2) s) three z u j in made 2 _ (three-digits s at v w u e f g a b c)
+
+-- The digits of a number stand before the end.
+pub number-fits : (s : List ℕ) (at : ℕ) (r : Option Number) (n : Number) → r ≡ number_at (drop at s) → r ≡ Some n → at + n.digits ≤ at + (length s - at)
+unfolding number_at
+number-fits s at r n e h = go (eqb (digits_of (drop at s)) 0) e where
+  go : (t : Bool) → r ≡ cond t None (Some (record { digits = digits_of (drop at s); value = numeral_of (drop at s) })) → at + n.digits ≤ at + (length s - at)
+  go true q = absurd (cc)
+  go false q =
+      let i : n ≡ record { digits = digits_of (drop at s); value = numeral_of (drop at s) } = cc in rw i (digits-fit s at)

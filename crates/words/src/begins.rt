@@ -2,40 +2,37 @@
 ghost use Rattle.std.specs.Prelude.{◌≡◌, ◌++◌};
 ghost use Rattle.paths.specs.Spelling.{gap, or_word};
 ghost use Rattle.words.specs.Words.{fixed_at};
-ghost use Rattle.words.specs.Begins.{true_of, label_of, not_of, letters_at, begin_at, named_of, axis_at, step_at, start_at};
+ghost use Rattle.words.specs.Begins.{label_at, letters_at, begin_at, named_of, axis_at, step_at, start_at};
 
-use crate::words::{Word, byte_at, fixed_at, numeral_at};
+use crate::words::{Stray, byte_at, fixed_at, numeral_at};
 
-// An axis: its end, and the kind of one step along it.
+// The word of an axis: its end, and the kind of one step along it.
 #[derive(Clone, Copy)]
-pub(crate) enum Named {
-    Axis(usize, u16),
-    None(usize),
+pub(crate) struct Named {
+    pub end: usize,
+    pub kind: u16,
 }
 
-// What a test begins with: it is `true` or `label N` (its end, and N or 0); `not` (its end); `(`; `<`;
-// or a place.
+// What a test begins with: it is `true` or `label N` (its end, and N or 0); `not` (its end); `(`; `<`.
 #[derive(Clone, Copy)]
 pub enum Begin {
     Leaf(usize, u16),
     Not(usize),
     Either,
     Path,
-    Nothing(usize),
 }
 
 // What a step begins with: it is AXIS or AXIS* (its end, whether a word ends there, its form); `?`;
-// `(AXIS?` (its end and the step's form); or a place.
+// `(AXIS?` (its end and the step's form).
 #[derive(Clone, Copy)]
 pub enum Start {
     Plain(usize, bool, u16),
     Test,
     While(usize, u16),
-    Stray(usize),
 }
 
-// `or`, behind a space where a word stands before.
-pub fn or_at(s: &[u8], at: usize, after: bool) -> Word
+// The end of `or`, behind a space where a word stands before.
+pub fn or_at(s: &[u8], at: usize, after: bool) -> Result<usize, Stray>
     ensures { result ≡ fixed_at (gap after ++ or_word) s.now at }
 {
     if after {
@@ -45,142 +42,93 @@ pub fn or_at(s: &[u8], at: usize, after: bool) -> Word
     }
 }
 
-// `true`, of the word that was looked for.
-fn true_of(w: Word) -> Begin
-    ensures { result ≡ true_of w }
+// The number of `label N`, at the end of the word and its space.
+fn label_at(s: &[u8], end: usize) -> Result<Begin, Stray>
+    ensures { result ≡ label_at s.now end }
 {
-    match w {
-        Word::Missing(p) => Begin::Nothing(p),
-        Word::At(e) => Begin::Leaf(e, 0),
-    }
-}
-
-// `label N`: the number stands behind the word and its space.
-fn label_of(s: &[u8], w: Word) -> Begin
-    ensures { result ≡ label_of s.now w }
-{
-    match w {
-        Word::Missing(p) => Begin::Nothing(p),
-        Word::At(e) => {
-            let n = numeral_at(s, e);
-            if n.digits == 0 {
-                Begin::Nothing(e)
-            } else {
-                Begin::Leaf(e + n.digits, n.value)
-            }
-        }
-    }
-}
-
-// `not`.
-fn not_of(w: Word) -> Begin
-    ensures { result ≡ not_of w }
-{
-    match w {
-        Word::Missing(p) => Begin::Nothing(p),
-        Word::At(e) => Begin::Not(e),
+    match numeral_at(s, end) {
+        Some(n) => Ok(Begin::Leaf(end + n.digits, n.value)),
+        None => Err(Stray { place: end }),
     }
 }
 
 // A test that begins with a letter.
-fn letters_at(s: &[u8], at: usize) -> Begin
+fn letters_at(s: &[u8], at: usize) -> Result<Begin, Stray>
     ensures { result ≡ letters_at s.now at }
 {
-    let b = byte_at(s, at);
-    if b == 116 {
-        return true_of(fixed_at(s, at, b"true"));
+    match byte_at(s, at) {
+        b't' => Ok(Begin::Leaf(fixed_at(s, at, b"true")?, 0)),
+        b'l' => label_at(s, fixed_at(s, at, b"label ")?),
+        b'n' => Ok(Begin::Not(fixed_at(s, at, b"not")?)),
+        _ => Err(Stray { place: at }),
     }
-    if b == 108 {
-        return label_of(s, fixed_at(s, at, b"label "));
-    }
-    if b == 110 {
-        return not_of(fixed_at(s, at, b"not"));
-    }
-    Begin::Nothing(at)
 }
 
 // A test: its first letter stands behind a space where a word stands before.
-pub fn begins_at(s: &[u8], at: usize, after: bool) -> Begin
+pub fn begins_at(s: &[u8], at: usize, after: bool) -> Result<Begin, Stray>
     ensures { result ≡ begin_at after s.now at }
 {
-    let b = byte_at(s, at);
-    if b == 40 {
-        return Begin::Either;
-    }
-    if b == 60 {
-        return Begin::Path;
-    }
     let unspaced = !after;
-    if unspaced {
-        return letters_at(s, at);
+    match byte_at(s, at) {
+        b'(' => Ok(Begin::Either),
+        b'<' => Ok(Begin::Path),
+        _ if unspaced => letters_at(s, at),
+        b' ' => letters_at(s, at + 1),
+        _ => Err(Stray { place: at }),
     }
-    if b == 32 {
-        return letters_at(s, at + 1);
-    }
-    Begin::Nothing(at)
 }
 
 // A word that names an axis, as its kind.
-fn named_at(s: &[u8], at: usize, word: &[u8], kind: u16) -> Named
+fn named_at(s: &[u8], at: usize, word: &[u8], kind: u16) -> Result<Named, Stray>
     ensures { result ≡ named_of kind (fixed_at word.now s.now at) }
 {
-    match fixed_at(s, at, word) {
-        Word::Missing(p) => Named::None(p),
-        Word::At(e) => Named::Axis(e, kind),
-    }
+    let end = fixed_at(s, at, word)?;
+    Ok(Named {
+        end: end,
+        kind: kind,
+    })
 }
 
 // An axis, by its first letter.
-fn axis_at(s: &[u8], at: usize) -> Named
+fn axis_at(s: &[u8], at: usize) -> Result<Named, Stray>
     ensures { result ≡ axis_at s.now at }
 {
-    let b = byte_at(s, at);
-    if b == 99 {
-        return named_at(s, at, b"child", 6);
+    match byte_at(s, at) {
+        b'c' => named_at(s, at, b"child", 6),
+        b'p' => named_at(s, at, b"parent", 7),
+        b'r' => named_at(s, at, b"right", 8),
+        b'l' => named_at(s, at, b"left", 9),
+        _ => Err(Stray { place: at }),
     }
-    if b == 112 {
-        return named_at(s, at, b"parent", 7);
-    }
-    if b == 114 {
-        return named_at(s, at, b"right", 8);
-    }
-    if b == 108 {
-        return named_at(s, at, b"left", 9);
-    }
-    Named::None(at)
 }
 
 // AXIS or AXIS*; or AXIS? where a bracket stands before. Both in one function, so that the words are
 // compared in one place.
-fn axis_step(s: &[u8], at: usize, bracket: bool) -> Start
+fn axis_step(s: &[u8], at: usize, bracket: bool) -> Result<Start, Stray>
     ensures { result ≡ step_at bracket s.now at }
 {
-    match axis_at(s, at) {
-        Named::None(p) => Start::Stray(p),
-        Named::Axis(e, kind) => {
-            let next = byte_at(s, e);
-            if bracket {
-                if next == 63 {
-                    return Start::While(e + 1, kind + 8);
-                }
-                return Start::Stray(e);
-            }
-            if next == 42 {
-                return Start::Plain(e + 1, false, kind + 4);
-            }
-            Start::Plain(e, true, kind)
+    let axis = axis_at(s, at)?;
+    let next = byte_at(s, axis.end);
+    if bracket {
+        if next == b'?' {
+            return Ok(Start::While(axis.end + 1, axis.kind + 8));
         }
+        return Err(Stray { place: axis.end });
     }
+    if next == b'*' {
+        return Ok(Start::Plain(axis.end + 1, false, axis.kind + 4));
+    }
+    Ok(Start::Plain(axis.end, true, axis.kind))
 }
 
 // A step: its axis stands behind the bracket where there is one.
-pub fn start_at(s: &[u8], at: usize) -> Start
+pub fn start_at(s: &[u8], at: usize) -> Result<Start, Stray>
     ensures { result ≡ start_at s.now at }
 {
     let b = byte_at(s, at);
-    if b == 63 {
-        return Start::Test;
+    if b == b'?' {
+        return Ok(Start::Test);
     }
-    let bracket = b == 40;
+    let bracket = b == b'(';
     axis_step(s, at + bracket as usize, bracket)
 }

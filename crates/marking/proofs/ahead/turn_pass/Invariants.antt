@@ -4,6 +4,3 @@ use Rattle.marking.proofs.ahead.turn_pass.Given as goal
 
 abbrev pub invariant-loop-t : goal.invariant-loop-t
 invariant-loop-t l = AheadMid l.asked l.f l.initial.marks l.a l.b l.i l.marks l.next l.t
-
-abbrev pub decreases-loop-t : goal.decreases-loop-t
-decreases-loop-t l = l.t

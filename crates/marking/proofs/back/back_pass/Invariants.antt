@@ -1,5 +1,4 @@
 -- `back_pass`: the elements passed have their marks, and a column leads to one of them. Assumes nothing.
-use Prim.Native.Nat.{◌≤◌, ◌-◌}
 use lib.ListN.{length}
 use Rattle.meaning.specs.Tree.{backward}
 use Rattle.layout.specs.Links.{leads}
@@ -10,7 +9,4 @@ use Rattle.marking.proofs.back.back_pass.Given as goal
 
 abbrev pub invariant-loop-s : goal.invariant-loop-s
 invariant-loop-s l =
-    (l.s ≤ length l.f) × Passed (length l.f) l.i (before-only (along_mark l.until backward (length l.f) (leads l.f) (bits_of l.initial.marks l.a) (bits_of l.initial.marks l.b)) l.s) l.initial.marks l.marks
-
-abbrev pub decreases-loop-s : goal.decreases-loop-s
-decreases-loop-s l = length l.f - l.s
+    Passed (length l.f) l.i (before-only (along_mark l.until backward (length l.f) (leads l.f) (bits_of l.initial.marks l.a) (bits_of l.initial.marks l.b)) l.s) l.initial.marks l.marks

@@ -6,40 +6,8 @@ use Rattle.marking.proofs.passes.mark_entries.Goals as goal
 
 pub loop-i-init : goal.loop-i-init
 loop-i-init c =
-    (omega arith, λ levels columns. words-start levels c.args.labels.now _ (rw columns.long at c.requires.room))
-
-pub overflow_mul-i : goal.overflow_mul-i
-overflow_mul-i c = let p = c.args in omega (arith, c.loop-i-test.true, (table-few p.entries p.table.now c.requires.rule_entries).1)
-
-pub offset_bounds-table-i : goal.offset_bounds-table-i
-offset_bounds-table-i c = let p = c.args in omega (arith, c.loop-i-test.true, (table-few p.entries p.table.now c.requires.rule_entries).1)
-
-pub bounds-table-i : goal.bounds-table-i
-bounds-table-i c = let p = c.args in omega (arith, c.loop-i-test.true, (table-few p.entries p.table.now c.requires.rule_entries).1)
-
-pub overflow_mul-i-in-loop-i : goal.overflow_mul-i-in-loop-i
-overflow_mul-i-in-loop-i c = let p = c.args in omega (arith, c.loop-i-test.true, (table-few p.entries p.table.now c.requires.rule_entries).1)
-
-pub overflow_add-i : goal.overflow_add-i
-overflow_add-i c = let p = c.args in omega (arith, c.loop-i-test.true, (table-few p.entries p.table.now c.requires.rule_entries).1)
-
-pub offset_bounds-table-i-in-loop-i : goal.offset_bounds-table-i-in-loop-i
-offset_bounds-table-i-in-loop-i c = let p = c.args in omega (arith, c.loop-i-test.true, (table-few p.entries p.table.now c.requires.rule_entries).1)
-
-pub bounds-table-i-in-loop-i : goal.bounds-table-i-in-loop-i
-bounds-table-i-in-loop-i c = let p = c.args in omega (arith, c.loop-i-test.true, (table-few p.entries p.table.now c.requires.rule_entries).1)
-
-pub overflow_mul-i-in-loop-i-2 : goal.overflow_mul-i-in-loop-i-2
-overflow_mul-i-in-loop-i-2 c = let p = c.args in omega (arith, c.loop-i-test.true, (table-few p.entries p.table.now c.requires.rule_entries).1)
-
-pub overflow_add-i-in-loop-i : goal.overflow_add-i-in-loop-i
-overflow_add-i-in-loop-i c = let p = c.args in omega (arith, c.loop-i-test.true, (table-few p.entries p.table.now c.requires.rule_entries).1)
-
-pub offset_bounds-table-i-in-loop-i-2 : goal.offset_bounds-table-i-in-loop-i-2
-offset_bounds-table-i-in-loop-i-2 c = let p = c.args in omega (arith, c.loop-i-test.true, (table-few p.entries p.table.now c.requires.rule_entries).1)
-
-pub bounds-table-i-in-loop-i-2 : goal.bounds-table-i-in-loop-i-2
-bounds-table-i-in-loop-i-2 c = let p = c.args in omega (arith, c.loop-i-test.true, (table-few p.entries p.table.now c.requires.rule_entries).1)
+    let p = c.args in
+    ((table-few p.entries p.table.now c.requires.rule_entries).1, λ levels columns. words-start levels p.labels.now _ (rw columns.long at c.requires.room))
 
 pub mark_entry-requires : goal.mark_entry-requires
 mark_entry-requires c =
@@ -48,7 +16,6 @@ mark_entry-requires c =
     let q = c.requires in
     let t = c.loop-i-test.true in
     let row = rw c.wide.ensures.0 at c.row_of-row.ensures in
-    let h = table-few p.entries p.table.now q.rule_entries in
     let f = table_fits p.entries p.table.now q.rule_entries l.i t in
     rw (c.wide-in-loop-i-2.ensures.0, c.wide-in-loop-i.ensures.0, row)
     record {
@@ -56,12 +23,6 @@ mark_entry-requires c =
       room = words-room q.columns.0 p.labels.now _ q.columns.1 q.room (omega arith) (l.invariant.1 q.columns.0 q.columns.1);
       columns = q.columns;
     }
-
-pub overflow_add-i-in-loop-i-2 : goal.overflow_add-i-in-loop-i-2
-overflow_add-i-in-loop-i-2 c = omega (arith, c.loop-i-test.true, c.ranges)
-
-pub loop-i-smaller : goal.loop-i-smaller
-loop-i-smaller c = omega (arith, c.loop-i-test.true)
 
 pub loop-i-preserved : goal.loop-i-preserved
 loop-i-preserved c =
@@ -71,7 +32,7 @@ loop-i-preserved c =
     let t = c.loop-i-test.true in
     let row = rw c.wide.ensures.0 at c.row_of-row.ensures in
     let e = rw (c.wide-in-loop-i-2.ensures.0, c.wide-in-loop-i.ensures.0, row) at c.mark_entry.ensures in
-    (omega arith, λ levels columns. table-turn p.entries p.table.now q.rule_entries l.i t levels p.labels.now (l.invariant.1 levels columns) (e levels columns))
+    (l.invariant.0, λ levels columns. table-turn p.entries p.table.now q.rule_entries l.i t levels p.labels.now (l.invariant.1 levels columns) (e levels columns))
 
 pub shape_of-marks : goal.shape_of-marks
 shape_of-marks c = let k = c.requires.columns in search (rules, (c.loop-i.invariant.1 k.0 k.1).long)

@@ -1,14 +1,12 @@
+use mathlib.Core.Path.{sym, ◌∙◌}
 use Rattle.parse.proofs.ReadLaws.{sized-so, tree-size, tree-text, tree-stopped}
 use Rattle.parse.proofs.tree.read_tree.Goals as goal
 
-pub returns-then-s : goal.returns-then-s
-returns-then-s c = tree-size c.args.s.now c.if-s.true
+pub returns-then-is_empty-s : goal.returns-then-is_empty-s
+returns-then-is_empty-s c = tree-size c.args.s.now (rw c.is_empty.ensures at c.if-is_empty-s.true)
 
-pub read_sized-requires : goal.read_sized-requires
-read_sized-requires c = (sized-so c.args.s.now c.if-s.false).few
+pub returns-then-is_err : goal.returns-then-is_err
+returns-then-is_err c = tree-stopped c.args.s.now (sized-so c.args.s.now (rw c.is_empty.ensures at c.if-is_empty-s.false)) _ c.read_sized-read.result (sym c.is_err.ensures.value ∙ c.if-is_err.true) c.read_sized-read.ensures
 
-pub returns-in-Text : goal.returns-in-Text
-returns-in-Text c = tree-text c.args.s.now (sized-so c.args.s.now c.if-s.false) c.read_sized.result _ c.read_sized.ensures c.in-Text.n c.in-Text.b c.in-Text.is
-
-pub returns-in-Stopped : goal.returns-in-Stopped
-returns-in-Stopped c = tree-stopped c.args.s.now (sized-so c.args.s.now c.if-s.false) c.read_sized.result _ c.read_sized.ensures c.in-Stopped.p c.in-Stopped.is
+pub returns-else-is_err : goal.returns-else-is_err
+returns-else-is_err c = tree-text c.args.s.now (sized-so c.args.s.now (rw c.is_empty.ensures at c.if-is_empty-s.false)) _ c.read_sized-read.result (sym c.is_err.ensures.value ∙ c.if-is_err.false) c.read_sized-read.ensures

@@ -1,19 +1,33 @@
-use mathlib.Core.Path.{◌∙◌}
+use Rattle.std.proofs.Common.{arith}
+use Rattle.std.proofs.lemmas.Grind.{common_steps}
 use Rattle.text.specs.Text.{ascii}
-use Rattle.words.proofs.BeginLaws.{letters-true, letters-label, letters-not, letters-other}
+use Rattle.words.specs.Begins.{letters_at}
 use Rattle.words.proofs.begins.letters_at.Goals as goal
 
-pub returns-then-b-eq116 : goal.returns-then-b-eq116
-unfolding ascii
-returns-then-b-eq116 c = c.true_of.ensures ∙ letters-true c.args.s.now c.args.at c.byte_at-b.result c.byte_at-b.ensures c.fixed_at.result c.if-b-eq116.true c.fixed_at.ensures
+pub returns-in_err-fixed_at-in-116 : goal.returns-in_err-fixed_at-in-116
+unfolding letters_at ascii
+returns-in_err-fixed_at-in-116 c = grind (arith, common_steps)
 
-pub returns-then-b-eq108 : goal.returns-then-b-eq108
-unfolding ascii
-returns-then-b-eq108 c = c.label_of.ensures ∙ letters-label c.args.s.now c.args.at c.byte_at-b.result c.byte_at-b.ensures c.fixed_at-then-b-eq108.result c.if-b-eq108.true c.fixed_at-then-b-eq108.ensures
+pub returns-in_err-fixed_at-in-108 : goal.returns-in_err-fixed_at-in-108
+unfolding letters_at ascii
+returns-in_err-fixed_at-in-108 c = grind (arith, common_steps)
 
-pub returns-then-b-eq110 : goal.returns-then-b-eq110
-unfolding ascii
-returns-then-b-eq110 c = c.not_of.ensures ∙ letters-not c.args.s.now c.args.at c.byte_at-b.result c.byte_at-b.ensures c.fixed_at-then-b-eq110.result c.if-b-eq110.true c.fixed_at-then-b-eq110.ensures
+pub returns-in_err-fixed_at-in-110 : goal.returns-in_err-fixed_at-in-110
+unfolding letters_at ascii
+returns-in_err-fixed_at-in-110 c = grind (arith, common_steps)
 
-pub returns : goal.returns
-returns c = letters-other c.args.s.now c.args.at c.byte_at-b.result c.byte_at-b.ensures c.if-b-eq116.false c.if-b-eq108.false c.if-b-eq110.false
+pub returns-in_ok-fixed_at-in-116 : goal.returns-in_ok-fixed_at-in-116
+unfolding letters_at ascii
+returns-in_ok-fixed_at-in-116 c = grind (arith, common_steps)
+
+pub returns-in_ok-fixed_at-in-108 : goal.returns-in_ok-fixed_at-in-108
+unfolding letters_at ascii
+returns-in_ok-fixed_at-in-108 c = grind (arith, common_steps)
+
+pub returns-in_ok-fixed_at-in-110 : goal.returns-in_ok-fixed_at-in-110
+unfolding letters_at ascii
+returns-in_ok-fixed_at-in-110 c = grind (arith, common_steps)
+
+pub returns-in_default : goal.returns-in_default
+unfolding letters_at ascii
+returns-in_default c = grind (arith, common_steps)

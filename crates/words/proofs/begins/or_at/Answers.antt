@@ -1,9 +1,12 @@
-use mathlib.Core.Path.{◌∙◌}
-use Rattle.words.proofs.BeginLaws.{or-spaced, or-close}
+use Rattle.std.proofs.Common.{arith}
+use Rattle.std.proofs.lemmas.Grind.{common_steps}
+use Rattle.text.specs.Text.{ascii}
 use Rattle.words.proofs.begins.or_at.Goals as goal
 
 pub returns-then-after : goal.returns-then-after
-returns-then-after c = c.fixed_at.ensures ∙ or-spaced c.args.after c.args.s.now c.args.at c.if-after.true
+unfolding ascii
+returns-then-after c = grind (arith, common_steps)
 
 pub returns-else-after : goal.returns-else-after
-returns-else-after c = c.fixed_at-else-after.ensures ∙ or-close c.args.after c.args.s.now c.args.at c.if-after.false
+unfolding ascii
+returns-else-after c = grind (arith, common_steps)
