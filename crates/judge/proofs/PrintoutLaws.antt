@@ -6,9 +6,9 @@ use mathlib.Core.Path.{◌≡◌, refl, sym, ap, subst, ◌∙◌}
 use mathlib.Core.Bool.{Bool}
 use mathlib.Core.Logic.{◌↔◌}
 use mathlib.Core.List.{List, [], ◌∷◌, ◌++◌, flatten}
-use lib.ListN.{length, get_or}
+use lib.ListN.{length, get_or, replicate, length-replicate}
 use lib.Seq.{length-sets}
-use Rattle.terms.specs.Answer.{number_of, count_of, in_order, Accepts, Answer, Accepted, Refused}
+use Rattle.terms.specs.Answer.{number_of, count_of, in_order, Accepts, Answer, Accepted, Refused, answered, number_of_fault}
 use Rattle.terms.proofs.AnswerLaws.{Sound, order-sound, refused-not}
 use Rattle.reports.specs.Report.{report_answer}
 use Rattle.grammar.proofs.Entries.{entries-count, entries-some}
@@ -23,14 +23,15 @@ use Rattle.marking.specs.declared.report.Counted.{Counted}
 use Rattle.marking.specs.declared.report.Marking.{Marking}
 use Rattle.std.specs.Prelude.{Result, Ok, Err}
 use Rattle.terms.specs.declared.refusal.Refusal.{Refusal}
-use Rattle.marking.proofs.AnswerLaws.{marked-evaluated, outcome-sound, both-taken}
+use Rattle.marking.proofs.AnswerLaws.{marked-evaluated, evaluated-small, outcome-sound, both-taken}
 use Rattle.marking.proofs.Means.{counted, word_is}
 use Rattle.text.specs.Text.{line_of, element_lines, accepted_lines, accepted_text, header_line, closing_line, refused_line}
 use Rattle.text.specs.Rendered.{buffer_size, verdict_in, clamped, table_text, Rendered}
 use Rattle.text.proofs.Room.{text-short}
 use Rattle.judge.specs.Output.{room, printed, accepted_printout, text_answer, TakenPut, printout_of_both}
-use Rattle.judge.specs.declared.judge.Judgement.{Judgement}
-use Rattle.terms.specs.Limits.{elements_most}
+use Rattle.std.specs.Result.{IsErrAnd}
+use Rattle.terms.proofs.FaultLaws.{answered-only}
+use Rattle.terms.specs.Limits.{elements_most, report_most}
 use Rattle.rules.specs.Entries.{entries_of}
 use Rattle.reports.specs.Elements.{labels_of, levels_of}
 use Rattle.numbers.specs.Lists.{listed, over, put_at}
@@ -161,22 +162,23 @@ module _ (rule report : List ℕ) where
     is = e.answer ∙ ap (evaluation rule report) long
 
     -- The marking has refused, and nothing is put.
-    pub put_refused : (out : List ℕ) → (r.number ≡ 0 → ⊥)
-        → TakenPut rule report out (record { number = r.number; place = r.place; written = 0 }) out
+    pub put_refused : {told : Result ℕ Refusal} (out : List ℕ) → (r.number ≡ 0 → ⊥) → answered told ≡ Refused r.number r.place
+        → TakenPut rule report out told out
     unfolding evaluation
-    put_refused out n = go (outcome rule report room) refl
+    put_refused {told} out n t = go (outcome rule report room) refl
       where
-        go : (a : Answer) → outcome rule report room ≡ a → TakenPut rule report out (record { number = r.number; place = r.place; written = 0 }) out
+        go : (a : Answer) → outcome rule report room ≡ a → TakenPut rule report out told out
         go (Accepted k) o = absurd (n (ap (λ (x : Evaluation). x.number) is ∙ ap number_of o))
         go (Refused number place) o =
+            let same : Refused r.number r.place ≡ Refused number place = rw (is, o) in
             record {
-              answer = rw (text-refused o, is, o);
+              answer = t ∙ same ∙ sym (text-refused o);
               bytes_are = rw (text-refused o) (sym (over_none out));
             }
 
     -- It has accepted, and the text is put.
     pub put-taken : {out after : List ℕ} {n : ℕ} → r.number ≡ 0 → Rendered (accepted_printout rule report) out n after
-        → TakenPut rule report out (record { number = 0; place = 0; written = n }) after
+        → TakenPut rule report out (Ok n) after
     put-taken z h =
         let t = text-taken (both-taken rule report room (ap (λ (x : Evaluation). x.number) (sym is) ∙ z)).is in
         record {
@@ -192,6 +194,15 @@ module _ (rule report : List ℕ) where
       go : (a : Answer) → outcome rule report room ≡ a → n ≡ length (accepted_printout rule report)
       go (Accepted k) o = ap count_of (sym e ∙ text-taken o)
       go (Refused k p) o = refused-not (sym (text-refused o) ∙ e)
+
+  -- The place of a refusal lies within a report.
+  pub text-place : {k p : ℕ} → text_answer rule report ≡ Refused k p → p ≤ report_most
+  unfolding evaluation
+  text-place {k} {p} e =
+      let marks = replicate {A = ℕ} elements_most 0 in
+      let small = (evaluated-small {rule = rule} {report = report} {marks = marks} (record { answer = refl; marks_are = refl })).place_in in
+      let o : outcome rule report (length marks) ≡ Refused k p = ap (outcome rule report) (length-replicate {A = ℕ} elements_most 0) ∙ (text-refused-iff k p).0 e in
+      rw o at small
 
   -- There are 81,920 bytes at most.
   pub text-few : {n : ℕ} → text_answer rule report ≡ Accepted n → n ≤ buffer_size
@@ -222,40 +233,37 @@ module _ (rule report : List ℕ) where
       go (Accepted k) = refl
       go (Refused k p) = refl
 
-  module _ {out mid : List ℕ} {r : Judgement} (p : TakenPut rule report out r mid) where
-    -- Number 0 says that they were taken, and another one why not.
-    pub judged-taken : r.number ≡ 0 → text_answer rule report ≡ Accepted r.written
-    judged-taken z = go (text_answer rule report) refl
-      where
-        go : (a : Answer) → text_answer rule report ≡ a → text_answer rule report ≡ Accepted r.written
-        go (Accepted n) e = rw (p.answer, e)
-        go (Refused k q) e = absurd (subst Accepts e (text-sound (ap (λ (x : Judgement). x.number) (sym p.answer) ∙ z)))
+  module _ {out mid : List ℕ} {r : Result ℕ Refusal} (p : TakenPut rule report out r mid) where
+    -- They were taken, with so many bytes, or refused.
+    pub judged-taken : (n : ℕ) → r ≡ Ok n → text_answer rule report ≡ Accepted n
+    judged-taken n e = sym p.answer ∙ ap answered e
 
-    pub judged-refused : (r.number ≡ 0 → ⊥) → text_answer rule report ≡ Refused r.number r.place
-    judged-refused n = go (text_answer rule report) refl
-      where
-        go : (a : Answer) → text_answer rule report ≡ a → text_answer rule report ≡ Refused r.number r.place
-        go (Accepted k) e = absurd (n (ap (λ (x : Judgement). x.number) p.answer ∙ ap number_of e))
-        go (Refused k q) e = rw (p.answer, e)
+    pub judged-refused : (f : Refusal) → r ≡ Err f → text_answer rule report ≡ Refused (number_of_fault f.fault) f.place
+    judged-refused f e = sym p.answer ∙ ap answered e
 
     -- What is printed: the text that was put, or the refusal in its place.
-    pub printed-taken : r.number ≡ 0 → Rendered (printout_of_both rule report) out r.written mid
-    printed-taken z =
-        let t = judged-taken z in
+    pub printed-taken : (n : ℕ) → r ≡ Ok n → Rendered (printout_of_both rule report) out n mid
+    printed-taken n e =
+        let t = judged-taken n e in
         let counted = text-counted t in
         rw (printed-text, t) (record { length_is = counted; fits = omega (arith, counted, text-few t); bytes_are = p.bytes_are ∙ rw t })
 
-    pub printed-refused : {after : List ℕ} {n : ℕ} → (r.number ≡ 0 → ⊥) → Rendered (refused_line r.number r.place) mid n after
+    pub printed-refused : (f : Refusal) {after : List ℕ} {n : ℕ} → r ≡ Err f → Rendered (refused_line (number_of_fault f.fault) f.place) mid n after
         → Rendered (printout_of_both rule report) out n after
-    printed-refused some h =
-        let t = judged-refused some in
+    printed-refused f e h =
+        let t = judged-refused f e in
         let kept : mid ≡ out = p.bytes_are ∙ rw t (over_none out) in
         rw (printed-text, t) (rw kept at h)
 
   -- The promise leaves one answer and one content of the buffer.
-  pub put-taken-only : {out after after' : List ℕ} {r r' : Judgement} → TakenPut rule report out r after → TakenPut rule report out r' after'
+  pub put-taken-only : {out after after' : List ℕ} {r r' : Result ℕ Refusal} → TakenPut rule report out r after → TakenPut rule report out r' after'
       → (r ≡ r') × (after ≡ after')
-  put-taken-only p q = (p.answer ∙ sym q.answer, p.bytes_are ∙ sym q.bytes_are)
+  put-taken-only p q = (answered-only _ _ (p.answer ∙ sym q.answer), p.bytes_are ∙ sym q.bytes_are)
+
+-- What is handed on by `?` is answered as it was.
+pub handed-on : (r : Result ℕ Refusal) (f : Refusal) → IsErrAnd r (λ e. e ≡ f) → answered r ≡ Refused (number_of_fault f.fault) f.place
+handed-on (Err e) f h = ap (λ (x : Refusal). Refused (number_of_fault x.fault) x.place) h
+handed-on (Ok n) f h = absurd h
 
 -- ---- the bytes that are written
 

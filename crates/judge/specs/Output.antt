@@ -2,14 +2,14 @@
 -- What the program prints for an input. Document 01, "The program".
 -- Shuts out: an element without its line; a verdict that is not the meaning's; a refusal with another number or place.
 -- Assumes nothing.
-use Rattle.std.specs.Prelude.{ℕ, ◌≡◌, List, Option, None, Some, length}
+use Rattle.std.specs.Prelude.{ℕ, ◌≡◌, List, Option, None, Some, Result, length}
 use Rattle.meaning.specs.Marks.{verdict, selected}
-use Rattle.terms.specs.Answer.{number_of, place_of, count_of, by_answer, where_accepted, in_order, Answer, Accepted}
+use Rattle.terms.specs.Answer.{number_of, place_of, by_answer, where_accepted, in_order, answered, Answer, Accepted}
+use Rattle.terms.specs.declared.refusal.Refusal.{Refusal}
 use Rattle.marking.specs.Evaluation.{outcome, meant_words}
 use Rattle.numbers.specs.Lists.{over}
 use Rattle.text.specs.Text.{refused_line, accepted_text}
 use Rattle.judge.specs.Input.{split_of, rule_in, report_in}
-use Rattle.judge.specs.declared.judge.Judgement.{Judgement}
 use Rattle.terms.specs.Limits.{elements_most}
 use Rattle.rules.specs.Entries.{entries_of}
 use Rattle.reports.specs.Elements.{labels_of, levels_of}
@@ -32,14 +32,10 @@ accepted_printout rule report =
 unfoldable pub text_answer : (rule report : List ℕ) → Answer
 text_answer rule report = in_order (outcome rule report room) (Accepted (length (accepted_printout rule report)))
 
--- What an answer comes to, as plain numbers: its number and place, and how many bytes are put, none where it is a refusal.
-abbrev pub judgement_of : Answer → Judgement
-judgement_of a = record { number = number_of a; place = place_of a; written = count_of a }
-
 -- What is promised where the text of a rule and a report is put into a buffer of 81,920 bytes, which always has room for it (law: `text-few`):
 -- the answer, and the text at the buffer's front where they are taken; every other byte is as it was.
-pub record TakenPut (rule report out : List ℕ) (r : Judgement) (after : List ℕ) : Type 0 where
-  pub answer : r ≡ judgement_of (text_answer rule report)
+pub record TakenPut (rule report out : List ℕ) (r : Result ℕ Refusal) (after : List ℕ) : Type 0 where
+  pub answer : answered r ≡ text_answer rule report
   pub bytes_are : after ≡ over (where_accepted (text_answer rule report) (accepted_printout rule report)) out
 
 -- The text of a rule and a report.

@@ -5,21 +5,13 @@ ghost use Rattle.judge.specs.Output.{TakenPut, printout_of_both, printout_of};
 use crate::split::split;
 use marking::report::mark_report;
 use terms::limits::ELEMENTS_MOST;
+use terms::refusal::Refusal;
 use text::put::TEXT_BYTES;
 use text::render::{put_accepted, put_refused};
 
-// What is decided of a rule and a report: document 01's number and the place, and how many bytes of text
-// were put; none where they are refused.
-#[derive(Clone, Copy)]
-pub struct Judgement {
-    pub number: u32,
-    pub place: u32,
-    pub written: usize,
-}
-
-// Puts the text of a rule and a report where they are taken, and nothing where they are refused. Both
-// are read once, in columns that have room for any report.
-pub fn put_taken(rule: &[u8], report: &[u8], out: &mut [u8; TEXT_BYTES]) -> Judgement
+// Puts the text of a rule and a report where they are taken, and answers how long it is; puts nothing
+// where they are refused. Both are read once, in columns that have room for any report.
+pub fn put_taken(rule: &[u8], report: &[u8], out: &mut [u8; TEXT_BYTES]) -> Result<usize, Refusal>
     ensures { TakenPut rule.now report.now out.old result out.new }
 {
     let mut labels = [0u16; ELEMENTS_MOST];
@@ -36,40 +28,25 @@ pub fn put_taken(rule: &[u8], report: &[u8], out: &mut [u8; TEXT_BYTES]) -> Judg
         &mut lefts,
         &mut marks,
     );
-    match marked.answer {
-        Ok(counted) => {
-            let written = put_accepted(
-                out,
-                &labels,
-                &levels,
-                &marks,
-                counted.elements,
-                marked.entries - 1,
-                counted.selected,
-            );
-            Judgement {
-                number: 0,
-                place: 0,
-                written,
-            }
-        }
-        Err(refusal) => Judgement {
-            number: refusal.fault.into(),
-            place: refusal.place as u32,
-            written: 0,
-        },
-    }
+    let counted = marked.answer?;
+    Ok(put_accepted(
+        out,
+        &labels,
+        &levels,
+        &marks,
+        counted.elements,
+        marked.entries - 1,
+        counted.selected,
+    ))
 }
 
 // Puts the printout of a rule and a report.
 fn put_halves(rule: &[u8], report: &[u8], out: &mut [u8; TEXT_BYTES]) -> usize
     ensures { Rendered (printout_of_both rule.now report.now) out.old result out.new }
 {
-    let r = put_taken(rule, report, out);
-    if r.number == 0 {
-        r.written
-    } else {
-        put_refused(out, r.number, r.place as usize)
+    match put_taken(rule, report, out) {
+        Ok(written) => written,
+        Err(refusal) => put_refused(out, refusal.fault.into(), refusal.place),
     }
 }
 
