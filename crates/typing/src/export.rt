@@ -4,7 +4,7 @@ ghost use Rattle.terms.specs.Answer.{Refused};
 ghost use Rattle.typing.specs.Typed.{path_reply, Typed};
 
 use crate::write::write_rule;
-use parse::tree::{ROW_PLACES, read_tree};
+use parse::tree::{NO_ROW, ROWS, read_tree};
 use terms::limits::ENTRIES_MOST;
 
 // What the call answers: the number, the place, and how many bytes it wrote.
@@ -33,7 +33,7 @@ fn refused(number: u32, place: u32) -> PathReply
 pub extern "C" fn pz_read_path(text: &[u8], rule: &mut [u8]) -> PathReply
     ensures { Typed text.now rule.old result rule.new }
 {
-    let mut rows = [0u16; ROW_PLACES];
+    let mut rows = [NO_ROW; ROWS];
     match read_tree(text, &mut rows) {
         Err(e) => refused(13, e.place as u32),
         Ok(counts) => {
