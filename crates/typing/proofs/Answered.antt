@@ -66,12 +66,6 @@ module _ (text rule : List ℕ) where
   typed-refused {a} {es} number place g e q =
       record { answer = a; entries = es; gets = g; reply_is = rw e q; buffer = rw e (sym (over_none rule)) }
 
-  pub place-small : (rows : List Row) (p : Stray) → TreeRead text (Err p) rows → p.place ≤ text_most
-  place-small rows p y = go y.0 where
-    go : {q : ℕ} {es : List Entry} → TextGets text (Refused 13 q) es → q ≤ text_most
-    go (bad-size h) = omega arith
-    go (no_text z h k) = omega (arith, z.few, k.within)
-
   pub typed-stopped : (rows : List Row) (p : Stray) (r : PathReply) → TreeRead text (Err p) rows → r ≡ path_reply (Refused 13 p.place) [] → Typed text rule r rule
   typed-stopped rows p r y q = typed-refused 13 p.place y.0 (outcome-refused 13 p.place [] (length rule)) q
 
