@@ -60,10 +60,7 @@ fn write_steps(rows: &[Row; ROWS], n: u16, rule: &mut [u8], entries: u16, bytes:
     ensures { StepsPut rows.now n rule.old (written entries bytes) rule.new result }
 {
     let mut row = n;
-    let mut so_far = Written {
-        entries: entries,
-        bytes: bytes,
-    };
+    let mut so_far = Written { entries, bytes };
     loop {
         so_far = write_step(rows, row, rule, so_far.entries, so_far.bytes);
         let part = row_at(rows, row);
