@@ -1,1 +1,2 @@
--- No laws of its own: see marking.
+-- What the evaluator's columns come to. For the rest see marking.
+pub mod Enough

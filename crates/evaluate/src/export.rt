@@ -27,7 +27,7 @@ fn evaluate_within<const N: usize>(rule: &[u8], report: &[u8], marks: &mut [u64]
     let mut levels = [0u16; N];
     let mut ups = [0u16; N];
     let mut lefts = [0u16; N];
-    mark_report(
+    let marking = mark_report(
         rule,
         report,
         &mut labels,
@@ -35,8 +35,21 @@ fn evaluate_within<const N: usize>(rule: &[u8], report: &[u8], marks: &mut [u64]
         &mut ups,
         &mut lefts,
         marks,
-    )
-    .answer
+    );
+    match marking.answer {
+        Ok(counted) => Evaluation {
+            number: 0,
+            place: 0,
+            elements: counted.elements as u32,
+            selected: counted.selected as u32,
+        },
+        Err(refusal) => Evaluation {
+            number: refusal.fault.into(),
+            place: refusal.place as u32,
+            elements: 0,
+            selected: 0,
+        },
+    }
 }
 
 // Evaluates a rule on a report: a word for each element into the first words of the lent buffer.

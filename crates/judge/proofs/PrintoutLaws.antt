@@ -17,9 +17,12 @@ use Rattle.meaning.specs.Marks.{word_of, words, verdict, selected}
 use Rattle.meaning.proofs.Words.{words-length}
 use Rattle.layout.specs.Layout.{LaidOut}
 use Rattle.layout.proofs.LayoutLaws.{room-for-any}
-use Rattle.marking.specs.Evaluation.{outcome, evaluation, meant_words, Evaluated, ColumnsAfter, ReportMarked}
+use Rattle.marking.specs.Evaluation.{outcome, evaluation, meant_words, told, Evaluated, ColumnsAfter, ReportMarked}
 use Rattle.marking.specs.declared.report.Evaluation.{Evaluation}
+use Rattle.marking.specs.declared.report.Counted.{Counted}
 use Rattle.marking.specs.declared.report.Marking.{Marking}
+use Rattle.std.specs.Prelude.{Result, Ok, Err}
+use Rattle.terms.specs.declared.refusal.Refusal.{Refusal}
 use Rattle.marking.proofs.AnswerLaws.{marked-evaluated, outcome-sound, both-taken}
 use Rattle.marking.proofs.Means.{counted, word_is}
 use Rattle.text.specs.Text.{line_of, element_lines, accepted_lines, accepted_text, header_line, closing_line, refused_line}
@@ -75,16 +78,16 @@ module _ (rule report labels levels ups lefts marks : List ℕ) {r : Marking} {l
     (a : length labels ≡ elements_most) (b : length levels ≡ elements_most) (c : length ups ≡ elements_most) (d : length lefts ≡ elements_most)
     (m : ReportMarked rule report labels levels ups lefts marks r ls ds us fs after) where
   -- Columns for 4,096 elements have room for every report.
-  pub marked-told : Evaluated rule report marks r.answer after
-  marked-told = marked-evaluated rule report labels levels ups lefts marks (room-for-any report elements_most labels levels ups lefts a b c d (omega arith)) m
+  pub marked-told : (a : Result Counted Refusal) → r.answer ≡ a → Evaluated rule report marks (told a) after
+  marked-told x is = subst (λ (y : Result Counted Refusal). Evaluated rule report marks (told y) after) is (marked-evaluated rule report labels levels ups lefts marks (room-for-any report elements_most labels levels ups lefts a b c d (omega arith)) m)
 
-  -- What the marking has left where it gave number 0.
-  pub accepted-with : r.answer.number ≡ 0 → AcceptedWith rule report after ls ds r.entries r.answer.elements r.answer.selected
+  -- What the marking has left where it accepts.
+  pub accepted-with : (k : Counted) → r.answer ≡ Ok k → AcceptedWith rule report after ls ds r.entries k.elements k.selected
   unfolding ColumnsAfter
-  accepted-with z =
-      let e = marked-told in
-      let both = both-taken rule report (length marks) (ap (λ (x : Evaluation). x.number) (sym e.answer) ∙ z) in
-      let n = counted rule report marks r.answer after e z in
+  accepted-with k is =
+      let e = marked-told (Ok k) is in
+      let both = both-taken rule report (length marks) (ap (λ (x : Evaluation). x.number) (sym e.answer)) in
+      let n = counted rule report marks (told (Ok k)) after e refl in
       let laid : LaidOut report labels levels ups lefts (report_answer report) ls ds us fs = rw both.rule_taken at m.columns_are in
       let lists = taken-lists report (subst Accepts (sym both.report_taken) tt) in
       let kl : ls ≡ over (labels_of report) labels = laid.read.labels_are ∙ ap (λ (xs : List ℕ). over xs labels) lists.0 in
@@ -93,7 +96,7 @@ module _ (rule report labels levels ups lefts marks : List ℕ) {r : Marking} {l
       record {
         some_entry = rw (m.entries_are ∙ ap count_of both.rule_taken) (entries-some rule both.entries both.rule_taken);
         entries_are = m.entries_are ∙ sym (entries-count rule);
-        marks_are = word_is rule report marks r.answer after e z;
+        marks_are = word_is rule report marks (told (Ok k)) after e refl;
         labels_are = λ k h. held_at (labels_of report) labels k kl (omega (arith, few report)) (omega arith);
         levels_are = λ k h. held_at (levels_of report) levels k kd (omega (arith, few report)) h;
         elements_are = n.elements_are;

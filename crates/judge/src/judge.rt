@@ -36,27 +36,28 @@ pub fn put_taken(rule: &[u8], report: &[u8], out: &mut [u8; TEXT_BYTES]) -> Judg
         &mut lefts,
         &mut marks,
     );
-    let r = marked.answer;
-    if r.number != 0 {
-        return Judgement {
-            number: r.number,
-            place: r.place,
+    match marked.answer {
+        Ok(counted) => {
+            let written = put_accepted(
+                out,
+                &labels,
+                &levels,
+                &marks,
+                counted.elements,
+                marked.entries - 1,
+                counted.selected,
+            );
+            Judgement {
+                number: 0,
+                place: 0,
+                written,
+            }
+        }
+        Err(refusal) => Judgement {
+            number: refusal.fault.into(),
+            place: refusal.place as u32,
             written: 0,
-        };
-    }
-    let written = put_accepted(
-        out,
-        &labels,
-        &levels,
-        &marks,
-        r.elements as usize,
-        marked.entries - 1,
-        r.selected as usize,
-    );
-    Judgement {
-        number: 0,
-        place: 0,
-        written,
+        },
     }
 }
 

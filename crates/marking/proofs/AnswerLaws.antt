@@ -10,38 +10,37 @@ use mathlib.Core.List.{List, []}
 use lib.Dec.{ltb}
 use lib.ListN.{length, take}
 use lib.Seq.{length-take-le}
-use Rattle.terms.specs.Answer.{number_of, count_of, place_of, by_answer, in_order, Answer, Accepted, Refused}
+use Rattle.terms.specs.Answer.{number_of, count_of, place_of, by_answer, in_order, Answer, Accepted, Refused, number_of_fault, answered}
 use Rattle.rules.specs.Rule.{rule_answer}
 use Rattle.reports.specs.Report.{report_answer}
 use Rattle.entry.specs.declared.entry.Entry.{Entry}
-use Rattle.terms.specs.Limits.{entries_most, report_most}
-use Rattle.grammar.specs.Table.{entries_in}
+use Rattle.terms.specs.Limits.{entries_most, elements_most, rule_most, report_most}
 use Rattle.grammar.specs.Rules.{RuleEntries}
-use Rattle.grammar.proofs.Table.{table-of-flat}
+use Rattle.grammar.proofs.Table.{table-of}
 use Rattle.grammar.proofs.WhenRule.{rule-answer-sound}
 use Rattle.grammar.proofs.WhenReport.{report-answer-sound}
-use Rattle.terms.proofs.AnswerLaws.{Sound, order-sound}
+use Rattle.terms.proofs.AnswerLaws.{Sound, order-sound, Within}
 use Rattle.grammar.proofs.Entries.{entries-count, entries-few, rule-entries}
 use Rattle.meaning.specs.Marks.{words, selected}
 use Rattle.meaning.proofs.Words.{words-length}
 use Rattle.layout.specs.Layout.{least_of, room_in, LaidOut}
 use Rattle.layout.proofs.LayoutLaws.{least-within, within-least, laid-room, ElementsLaid, elements_laid}
-use Rattle.marking.specs.Evaluation.{short_of_room, evaluation_of, meant_words, outcome, evaluation, words_written, Evaluated, room_for, ColumnsAfter, ReportMarked, MarkedBy}
+use Rattle.marking.specs.Evaluation.{short_of_room, evaluation_of, told, meant_words, outcome, evaluation, words_written, Evaluated, room_for, ColumnsAfter, ReportMarked, MarkedBy}
 use Rattle.marking.specs.Pass.{Columns, Marked}
 use Rattle.marking.specs.declared.report.Evaluation.{Evaluation}
+use Rattle.marking.specs.declared.report.Counted.{Counted}
 use Rattle.marking.specs.declared.report.Marking.{Marking}
-use Rattle.rules.specs.Entries.{EntriesTaken, entries_of, flat}
+use Rattle.std.specs.Prelude.{Result, Ok, Err}
+use Rattle.terms.specs.declared.refusal.Refusal.{Refusal}
+use Rattle.terms.specs.declared.refusal.Fault.TheVariants.{Room}
+use Rattle.rules.specs.Entries.{EntriesTaken, entries_of}
 use Rattle.reports.specs.Elements.{labels_of, levels_of}
 use Rattle.numbers.specs.Lists.{over}
 use Rattle.rules.proofs.EntryLaws.{rule-small, entries-taken-all}
-use Rattle.numbers.proofs.Lists.{over-kept}
+use Rattle.numbers.proofs.Lists.{over-kept, over-length}
+use Rattle.reports.proofs.ElementLaws.{report-small}
+use Rattle.grammar.proofs.Elements.{levels-elements, elements-few}
 use Rattle.numbers.proofs.BitLaws.{have_bit-few}
-
--- The selected count is no more than there are words, so it fits where the elements' does.
-pub marked-few : {es : List Entry} {ds labels marks after : List ℕ} {r : ℕ} (n : ℕ) (levels : List ℕ) → ds ≡ take n levels → n ≤ length levels
-    → Marked es ds labels marks r after → r ≤ n
-marked-few {es} {ds} {labels} n levels e h m =
-    omega (arith, m.selected_is, have_bit-few (pred (length es)) (words es ds labels), words-length es ds labels, ap length e, length-take-le n levels h)
 
 -- ---- once the rule has been read
 
@@ -83,11 +82,10 @@ module _ (es : List Entry) {report labels levels ups lefts : List ℕ} (marks : 
   laid-answered = subst (λ (x : Answer). LaidOut report labels levels ups lefts x ls ds us fs) laid.read.answer laid
 
   -- The report is refused.
-  pub by-refused : {number place : ℕ} → r ≡ Refused number place
-      → MarkedBy es report labels levels ups lefts marks (evaluation_of (Refused number place) 0) ls ds us fs marks
+  pub by-refused : (f : Refusal) → r ≡ answered (Err f) → MarkedBy es report labels levels ups lefts marks (Err f) ls ds us fs marks
   unfolding short_of_room
-  by-refused {number} {place} e =
-      let a : Refused number place ≡ report_answer report = sym e ∙ laid.read.answer in
+  by-refused f e =
+      let a : answered (Err f) ≡ report_answer report = sym e ∙ laid.read.answer in
       record {
         answer = rw (← a);
         marks_are = rw (← a) (over-kept [] marks refl);
@@ -99,8 +97,9 @@ module _ (es : List Entry) {report labels levels ups lefts : List ℕ} (marks : 
     accepts = sym e ∙ laid.read.answer
 
     -- The report is accepted, and there is no room for its elements.
-    pub by-short : room_for labels levels ups lefts marks < n → MarkedBy es report labels levels ups lefts marks (evaluation_of (Refused 9 0) 0) ls ds us fs marks
-    unfolding short_of_room
+    pub by-short : room_for labels levels ups lefts marks < n
+        → MarkedBy es report labels levels ups lefts marks (Err (record { fault = Room; place = 0 })) ls ds us fs marks
+    unfolding short_of_room number_of_fault
     by-short h =
         record {
           answer = rw (← accepts, lt-ltb (room_for labels levels ups lefts marks) n h);
@@ -110,7 +109,7 @@ module _ (es : List Entry) {report labels levels ups lefts : List ℕ} (marks : 
 
     -- The report is accepted and its elements are marked.
     pub by-room : {k : ℕ} {after : List ℕ} → n ≤ room_for labels levels ups lefts marks → Marked es (take n ds) (take n ls) marks k after
-        → MarkedBy es report labels levels ups lefts marks (evaluation_of (Accepted n) k) ls ds us fs after
+        → MarkedBy es report labels levels ups lefts marks (Ok (record { elements = n; selected = k })) ls ds us fs after
     unfolding short_of_room
     by-room {k} {after} h m =
         let o = held marks laid e h in
@@ -125,10 +124,10 @@ module _ (es : List Entry) {report labels levels ups lefts : List ℕ} (marks : 
 
 module _ (rule report labels levels ups lefts marks : List ℕ) where
   -- The rule is refused.
-  pub marked_refused : {number place : ℕ} → Refused number place ≡ rule_answer rule
-      → ReportMarked rule report labels levels ups lefts marks (record { answer = evaluation_of (Refused number place) 0; entries = 0 }) labels levels ups lefts marks
+  pub marked_refused : (f : Refusal) → answered (Err f) ≡ rule_answer rule
+      → ReportMarked rule report labels levels ups lefts marks (record { answer = Err f; entries = 0 }) labels levels ups lefts marks
   unfolding outcome evaluation words_written ColumnsAfter
-  marked_refused {number} {place} a =
+  marked_refused f a =
       record {
         answer_is = rw (← a);
         entries_are = ap count_of a;
@@ -137,7 +136,7 @@ module _ (rule report labels levels ups lefts marks : List ℕ) where
       }
 
   -- The rule is accepted.
-  pub marked-accepted : {n : ℕ} {r : Evaluation} {ls ds us fs after : List ℕ} (es : List Entry) → Accepted n ≡ rule_answer rule → es ≡ entries_of rule
+  pub marked-accepted : {n : ℕ} {r : Result Counted Refusal} {ls ds us fs after : List ℕ} (es : List Entry) → Accepted n ≡ rule_answer rule → es ≡ entries_of rule
       → MarkedBy es report labels levels ups lefts marks r ls ds us fs after
       → ReportMarked rule report labels levels ups lefts marks (record { answer = r; entries = n }) ls ds us fs after
   unfolding outcome evaluation words_written meant_words ColumnsAfter
@@ -149,7 +148,7 @@ module _ (rule report labels levels ups lefts marks : List ℕ) where
         columns_are = rw (← a) m.laid_out;
       }
     where
-      is : r ≡ evaluation rule report (room_for labels levels ups lefts marks)
+      is : told r ≡ evaluation rule report (room_for labels levels ups lefts marks)
       is = m.answer ∙ rw (e, ← a)
 
 -- ---- columns that have room for the report
@@ -173,7 +172,7 @@ outcome-room rule report columns room enough = ap (in_order (rule_answer rule)) 
 
 pub marked-evaluated : (rule report labels levels ups lefts marks : List ℕ) {r : Marking} {ls ds us fs after : List ℕ}
     → ((n : ℕ) → report_answer report ≡ Accepted n → n ≤ room_in labels levels ups lefts)
-    → ReportMarked rule report labels levels ups lefts marks r ls ds us fs after → Evaluated rule report marks r.answer after
+    → ReportMarked rule report labels levels ups lefts marks r ls ds us fs after → Evaluated rule report marks (told r.answer) after
 unfolding evaluation words_written room_for
 marked-evaluated rule report labels levels ups lefts marks enough m =
     let e = outcome-room rule report (room_in labels levels ups lefts) (length marks) enough in
@@ -228,23 +227,61 @@ both-taken rule report room z = go (rule_answer rule) (report_answer report) (lt
           is = rw (f, g, rw g at h);
         }
 
+-- ---- the sizes of what is answered
+
+outcome-small : (rule report : List ℕ) (room : ℕ) → Within report_most elements_most (outcome rule report room)
+unfolding outcome short_of_room
+outcome-small rule report room = go (rule_answer rule) (report_answer report) (ltb room (count_of (report_answer report))) (rule-small rule) (report-small report)
+  where
+    go : (a b : Answer) (short : Bool) → Within rule_most entries_most a → Within report_most elements_most b
+        → Within report_most elements_most (in_order a (in_order b (cond short (Refused 9 0) b)))
+    go (Refused k p) b short f g = record { place_in = omega (arith, f.place_in); count_within = omega arith }
+    go (Accepted m) (Refused k p) short f g = g
+    go (Accepted m) (Accepted n) true f g = record { place_in = omega arith; count_within = omega arith }
+    go (Accepted m) (Accepted n) false f g = g
+
+-- Every number that is answered fits one of C.
+pub record Small (e : Evaluation) : Type 0 where
+  pub place_in : e.place ≤ report_most
+  pub elements_in : e.elements ≤ elements_most
+  pub selected_in : e.selected ≤ elements_most
+
+pub evaluated-small : {rule report marks after : List ℕ} {e : Evaluation} → Evaluated rule report marks e after → Small e
+unfolding evaluation meant_words
+evaluated-small {rule} {report} {marks} {after} {e} m =
+    let w = outcome-small rule report (length marks) in
+    record {
+      place_in = rw m.answer w.place_in;
+      elements_in = rw m.answer w.count_within;
+      selected_in = rw m.answer (few (outcome rule report (length marks)));
+    }
+  where
+    few : (a : Answer) → by_answer a (selected (length (entries_of rule)) (words (entries_of rule) (levels_of report) (labels_of report))) 0 ≤ elements_most
+    few (Refused k p) = omega arith
+    few (Accepted n) =
+        omega (arith, have_bit-few (pred (length (entries_of rule))) (words (entries_of rule) (levels_of report) (labels_of report)), words-length (entries_of rule) (levels_of report) (labels_of report), levels-elements report, elements-few report)
+
 -- ---- what the filled tables are
 
 -- The table of an accepted rule: its n entries.
-pub record EntriesRead (rule : List ℕ) (n : ℕ) (table : List ℕ) : Type 0 where
+pub record EntriesRead (rule : List ℕ) (n : ℕ) (table : List Entry) : Type 0 where
   pub is : Accepted n ≡ rule_answer rule
-  pub table_read : entries_in n table ≡ entries_of rule
-  pub table_rule : RuleEntries (entries_in n table)
+  pub within : n ≤ length table
+  pub table_read : take n table ≡ entries_of rule
+  pub table_rule : RuleEntries (take n table)
 
-pub entries-read : (rule table : List ℕ) {r : Answer} {n : ℕ} {last : List ℕ} → length table ≡ 3 * entries_most → EntriesTaken rule table r last
+pub entries-read : (rule : List ℕ) (table : List Entry) {r : Answer} {n : ℕ} {last : List Entry} → length table ≡ entries_most → EntriesTaken rule table r last
     → r ≡ Accepted n → EntriesRead rule n last
 entries-read rule table {r} {n} {last} room f e =
     let is : Accepted n ≡ rule_answer rule = sym e ∙ f.answer in
-    let held : last ≡ over (flat (entries_of rule)) table = rw (entries-taken-all rule n is) at f.table_is in
+    let held : last ≡ over (entries_of rule) table = rw (entries-taken-all rule n is) at f.table_is in
     let count : length (entries_of rule) ≡ n = entries-count rule ∙ ap count_of (sym is) in
-    let read : entries_in n last ≡ entries_of rule = rw (held, ← count) (table-of-flat (entries_of rule) table (omega (arith, entries-few rule, entries-count rule))) in
-    record { is = is; table_read = read; table_rule = subst RuleEntries (sym read) (rule-entries rule n (sym is)) }
-
--- The place of a rule's refusal fits where a report's does.
-pub rule-place : (rule : List ℕ) → place_of (rule_answer rule) ≤ report_most
-rule-place rule = omega (arith, (rule-small rule).place_in)
+    let same : length last ≡ length table = ap length held ∙ over-length (entries_of rule) table in
+    let long : n ≤ length last = omega (arith, entries-few rule, entries-count rule) in
+    let read : take n last ≡ entries_of rule = rw (held, ← count) (table-of (entries_of rule) table (omega (arith, entries-few rule, entries-count rule))) in
+    record {
+      is = is;
+      within = long;
+      table_read = read;
+      table_rule = subst RuleEntries (sym read) (rule-entries rule n (sym is));
+    }

@@ -33,11 +33,9 @@ use Rattle.layout.specs.Links.{leads, Linked}
 use Rattle.marking.specs.Pass.{Stored, Passed, Room, Columns, bits_of, Marked}
 use Rattle.marking.specs.Steps.{along_mark, ahead_mark, Nearest}
 use Rattle.steps.specs.Steps.{column_of}
-use Rattle.grammar.specs.Table.{entries_in, entry_in}
 use Rattle.steps.specs.declared.ahead.AskedAhead.TheVariants.{Every}
 use Rattle.layout.proofs.LinkLaws.{ups-all, lefts-all, parent-next}
 use Rattle.marking.proofs.PassLaws.{stored-start, stored_same, passed_start}
-use Rattle.grammar.proofs.Table.{table-length, table_at}
 use Rattle.terms.specs.Limits.{entries_most}
 use Rattle.numbers.proofs.Lists.{over-is}
 use Rattle.numbers.specs.Bits.{word, word_bits, in_word}
@@ -147,7 +145,7 @@ module _ (levels labels : List ℕ) (entries : List Entry) where
       ])
 
   -- One entry more.
-  entry-turn : RuleEntries entries → (i : ℕ) → i < length entries → {before ws after : List ℕ}
+  pub entry-turn : RuleEntries entries → (i : ℕ) → i < length entries → {before ws after : List ℕ}
       → Stored (length levels) (word_up_to i) before ws
       → Passed (length levels) i (means levels labels (shape_of (entry i).kind) (entry i).a (bits_of ws (entry i).a) (bits_of ws (entry i).b)) ws after
       → Stored (length levels) (word_up_to (i + 1)) before after
@@ -193,39 +191,20 @@ module _ (levels labels : List ℕ) (entries : List Entry) where
         selected_is = c ∙ ap (selected (length entries)) o;
       }
 
--- ---- the entries of a table
+-- ---- the entries of a rule
 
-module _ (n : ℕ) (table : List ℕ) (rule : RuleEntries (entries_in n table)) where
-  -- A rule in a table has 1 to 64 entries.
-  pub table-few : (1 ≤ n) × (n ≤ entries_most)
-  table-few = let e = table-length table n in (omega (arith, rule.nonempty), omega (arith, rule.few))
-
+module _ (es : List Entry) (rule : RuleEntries es) where
   -- Its last entry's bit, as the machine works it out.
-  pub table-last : in_word (n - 1) ≡ pred (length (entries_in n table))
-  table-last = mod-eq_of_lt (omega (arith, table-few)) ∙ pred-sub n ∙ ap pred (sym (table-length table n))
+  pub last-bit : in_word (length es - 1) ≡ pred (length es)
+  last-bit = mod-eq_of_lt (omega (arith, rule.nonempty, rule.few)) ∙ pred-sub (length es)
 
-  module _ (i : ℕ) (l : i < n) where
-    within : i < length (entries_in n table)
-    within = omega (arith, table-length table n)
-
-    -- Its numbers are below i, where they are entry numbers.
-    pub table_fits : numbers_of (shape_of (get_or table (3 * i) 0)) ≡ Entries → (get_or table (3 * i + 1) 0 < i) × (get_or table (3 * i + 2) 0 < i)
-    table_fits h =
-        formed-entries i (entry_in table i) (rw (table_at table n i l) at (rule.formed i within)) (numbers-are (get_or table (3 * i) 0) ∙ h)
-
-    -- One entry more.
-    pub table-turn : (levels labels : List ℕ) {before ws after : List ℕ}
-        → Stored (length levels) (word_up_to levels labels (entries_in n table) i) before ws
-        → Passed (length levels) i (means levels labels (shape_of (get_or table (3 * i) 0)) (get_or table (3 * i + 1) 0) (bits_of ws (get_or table (3 * i + 1) 0)) (bits_of ws (get_or table (3 * i + 2) 0))) ws after
-        → Stored (length levels) (word_up_to levels labels (entries_in n table) (i + 1)) before after
-    table-turn levels labels r p =
-        entry-turn levels labels (entries_in n table) rule i within r (rw (table_at table n i l) p)
+  -- The numbers of an entry are below its own, where they are entry numbers.
+  pub entry_fits : (i : ℕ) → i < length es → numbers_of (shape_of (get_or es i no_entry).kind) ≡ Entries
+      → ((get_or es i no_entry).a < i) × ((get_or es i no_entry).b < i)
+  entry_fits i l h = formed-entries i (get_or es i no_entry) (rule.formed i l) (numbers-are (get_or es i no_entry).kind ∙ h)
 
   -- After the last entry each word is its element's.
-  pub table-end : (levels labels : List ℕ) {before ws : List ℕ} (i : ℕ) → i ≡ n
-      → Stored (length levels) (word_up_to levels labels (entries_in n table) i) before ws
-      → Stored (length levels) (word_of (entries_in n table) levels labels) before ws
+  pub words-end : (levels labels : List ℕ) {before ws : List ℕ} (i : ℕ) → i ≡ length es
+      → Stored (length levels) (word_up_to levels labels es i) before ws → Stored (length levels) (word_of es levels labels) before ws
   unfolding word_of
-  table-end levels labels i e r =
-      stored_same (length levels) _ (λ s l. ap (λ (k : ℕ). word_up_to levels labels (entries_in n table) k s)
-      (e ∙ sym (table-length table n))) r
+  words-end levels labels i e r = stored_same (length levels) _ (λ s l. ap (λ (k : ℕ). word_up_to levels labels es k s) e) r

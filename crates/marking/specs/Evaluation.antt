@@ -3,14 +3,16 @@
 -- its order, and demand 2.
 -- Shuts out: a refusal that writes; 9 before 6; an invented count; a word past the last element written.
 -- Laws: proofs/Means.antt (what the promise comes to), proofs/AnswerLaws.antt, proofs/Only.antt. Assumes nothing.
-use Rattle.std.specs.Prelude.{ℕ, ◌≡◌, cond, List, [], ltb, length}
-use Rattle.terms.specs.Answer.{number_of, place_of, count_of, by_answer, in_order, Answer, Accepted, Refused}
+use Rattle.std.specs.Prelude.{ℕ, ◌≡◌, cond, List, [], ltb, length, Result, Ok, Err}
+use Rattle.terms.specs.Answer.{number_of, place_of, count_of, by_answer, in_order, Answer, Accepted, Refused, number_of_fault}
+use Rattle.terms.specs.declared.refusal.Refusal.{Refusal}
 use Rattle.rules.specs.Rule.{rule_answer}
 use Rattle.reports.specs.Report.{report_answer}
 use Rattle.entry.specs.declared.entry.Entry.{Entry}
 use Rattle.meaning.specs.Marks.{words, selected}
 use Rattle.layout.specs.Layout.{least_of, room_in, LaidOut}
 use Rattle.marking.specs.declared.report.Evaluation.{Evaluation}
+use Rattle.marking.specs.declared.report.Counted.{Counted}
 use Rattle.marking.specs.declared.report.Marking.{Marking}
 use Rattle.rules.specs.Entries.{entries_of}
 use Rattle.reports.specs.Elements.{labels_of, levels_of}
@@ -24,6 +26,11 @@ short_of_room room a = in_order a (cond (ltb room (count_of a)) (Refused 9 0) a)
 -- Refused: elements and selected are 0.
 abbrev pub evaluation_of : Answer → (selected : ℕ) → Evaluation
 evaluation_of a selected = record { number = number_of a; place = place_of a; elements = count_of a; selected = by_answer a selected 0 }
+
+-- What the code answers comes to: the counts, or the refusal's number and place.
+abbrev pub told : Result Counted Refusal → Evaluation
+told (Ok c) = record { number = 0; place = 0; elements = c.elements; selected = c.selected }
+told (Err r) = record { number = number_of_fault r.fault; place = r.place; elements = 0; selected = 0 }
 
 module _ (rule report : List ℕ) where
   -- The words that the meaning gives the elements, in order.
@@ -63,13 +70,13 @@ ColumnsAfter (Accepted n) report labels levels ups lefts labels' levels' ups' le
 
 -- The promise: the answer, the rule's entries counted, the buffer with what is written in its first places, and the columns.
 pub record ReportMarked (rule report labels levels ups lefts marks : List ℕ) (r : Marking) (labels' levels' ups' lefts' marks' : List ℕ) : Type 0 where
-  pub answer_is : r.answer ≡ evaluation rule report (room_for labels levels ups lefts marks)
+  pub answer_is : told r.answer ≡ evaluation rule report (room_for labels levels ups lefts marks)
   pub entries_are : r.entries ≡ count_of (rule_answer rule)
   pub marks_are : marks' ≡ over (words_written rule report (room_for labels levels ups lefts marks)) marks
   pub columns_are : ColumnsAfter (rule_answer rule) report labels levels ups lefts labels' levels' ups' lefts'
 
 -- The same once the rule has been read: its entries are es.
-pub record MarkedBy (es : List Entry) (report labels levels ups lefts marks : List ℕ) (r : Evaluation) (labels' levels' ups' lefts' marks' : List ℕ) : Type 0 where
-  pub answer : r ≡ evaluation_of (short_of_room (room_for labels levels ups lefts marks) (report_answer report)) (selected (length es) (words es (levels_of report) (labels_of report)))
+pub record MarkedBy (es : List Entry) (report labels levels ups lefts marks : List ℕ) (r : Result Counted Refusal) (labels' levels' ups' lefts' marks' : List ℕ) : Type 0 where
+  pub answer : told r ≡ evaluation_of (short_of_room (room_for labels levels ups lefts marks) (report_answer report)) (selected (length es) (words es (levels_of report) (labels_of report)))
   pub marks_are : marks' ≡ over (by_answer (short_of_room (room_for labels levels ups lefts marks) (report_answer report)) (words es (levels_of report) (labels_of report)) []) marks
   pub laid_out : LaidOut report labels levels ups lefts (report_answer report) labels' levels' ups' lefts'

@@ -2,31 +2,29 @@
 ghost use Rattle.std.specs.Prelude.{List, ℕ, ◌≤◌, length, take};
 ghost use Rattle.grammar.specs.Rules.{RuleEntries};
 ghost use Rattle.marking.specs.Pass.{Columns, Marked};
-ghost use Rattle.grammar.specs.Table.{entries_in};
 
 use crate::passes::mark_entries;
 use buffer::clear::clear;
 use buffer::count::count_with_bit;
-use rules::table::ENTRY_PLACES;
+use entry::entry::Entry;
 
 // Marks the n elements of a report with the entries of a rule, and counts those whose last entry's
-// mark is true, with the tables of an accepted rule and report.
+// mark is true, with the entries and the columns of an accepted rule and report.
 pub(crate) fn mark_elements<'a>(
-    entries: usize,
-    table: &[u16; ENTRY_PLACES],
+    entries: &[Entry],
     n: usize,
     labels: &[u16],
     ups: &'a [u16],
     lefts: &'a [u16],
     marks: &mut [u64],
 ) -> usize
-    requires rule_entries { RuleEntries (entries_in entries table.now) }
+    requires rule_entries { RuleEntries entries.now }
     requires columns { (levels : List ℕ) × Columns levels (take n labels.now) (take n ups.now) (take n lefts.now) }
     requires n_in_bounds { (n ≤ length labels.now) × (n ≤ length ups.now) × (n ≤ length lefts.now) × (n ≤ length marks.old) }
-    ensures { (levels : List ℕ) → Columns levels (take n labels.now) (take n ups.now) (take n lefts.now) → Marked (entries_in entries table.now) levels (take n labels.now) marks.old result marks.new }
+    ensures { (levels : List ℕ) → Columns levels (take n labels.now) (take n ups.now) (take n lefts.now) → Marked entries.now levels (take n labels.now) marks.old result marks.new }
 {
     let words = &mut marks[..n];
     clear(words);
-    mark_entries(entries, table, &labels[..n], &ups[..n], &lefts[..n], words);
-    count_with_bit(words, entries - 1)
+    mark_entries(entries, &labels[..n], &ups[..n], &lefts[..n], words);
+    count_with_bit(words, entries.len() - 1)
 }

@@ -8,13 +8,12 @@ ghost use Rattle.meaning.specs.Marks.{means, word_of};
 ghost use Rattle.layout.specs.Links.{leads};
 ghost use Rattle.marking.specs.Pass.{Passed, Stored, Room, Columns, bits_of};
 ghost use Rattle.marking.specs.Steps.{along_mark};
-ghost use Rattle.grammar.specs.Table.{entries_in};
 
 use crate::ahead::{gather_pass, turn_pass};
 use crate::back::back_pass;
 use crate::local::local_pass;
+use entry::entry::Entry;
 use numbers::bytes::wide;
-use rules::table::ENTRY_PLACES;
 use steps::ahead::AskedAhead;
 use steps::column::column;
 use terms::kind::{Axis, Shape, leads_back, row_of};
@@ -65,30 +64,22 @@ fn mark_entry<'a>(
 
 // All entries, in order, over words that are 0.
 pub(crate) fn mark_entries<'a>(
-    entries: usize,
-    table: &[u16; ENTRY_PLACES],
+    entries: &[Entry],
     labels: &[u16],
     ups: &'a [u16],
     lefts: &'a [u16],
     marks: &mut [u64],
 )
-    requires rule_entries { RuleEntries (entries_in entries table.now) }
+    requires rule_entries { RuleEntries entries.now }
     requires room { Room (length labels.now) 0 marks.old }
     requires columns { (levels : List ℕ) × Columns levels labels.now ups.now lefts.now }
-    ensures { (levels : List ℕ) → Columns levels labels.now ups.now lefts.now → Stored (length levels) (word_of (entries_in entries table.now) levels labels.now) marks.old marks.new }
+    ensures { (levels : List ℕ) → Columns levels labels.now ups.now lefts.now → Stored (length levels) (word_of entries.now levels labels.now) marks.old marks.new }
 {
-    for i in 0..entries {
-        let row = row_of(wide(table[3 * i]));
+    for (i, entry) in entries.iter().enumerate() {
+        let row = row_of(wide(entry.kind));
         let shape = row.shape;
-        mark_entry(
-            shape,
-            wide(table[3 * i + 1]),
-            wide(table[3 * i + 2]),
-            i,
-            labels,
-            ups,
-            lefts,
-            marks,
-        );
+        let a = wide(entry.a);
+        let b = wide(entry.b);
+        mark_entry(shape, a, b, i, labels, ups, lefts, marks);
     }
 }

@@ -1,19 +1,18 @@
 // From bytes to marks: the rule's entries, the report laid out, the marking, and the answer.
 ghost use Rattle.std.specs.Prelude.{◌≡◌, ◌≤◌};
-ghost use Rattle.grammar.specs.Table.{entries_in};
 ghost use Rattle.grammar.specs.Rules.{RuleEntries};
-ghost use Rattle.terms.specs.Limits.{report_most};
-ghost use Rattle.terms.specs.Answer.{Refused};
-ghost use Rattle.marking.specs.Evaluation.{evaluation_of, MarkedBy, ReportMarked};
+ghost use Rattle.marking.specs.Evaluation.{MarkedBy, ReportMarked};
 
 use crate::elements::mark_elements;
+use entry::entry::Entry;
 use layout::columns::lacks_room;
 use layout::layout::lay_out;
-use rules::table::{ENTRY_PLACES, read_entries};
-use terms::answer::Answer;
+use rules::table::read_entries;
+use terms::limits::ENTRIES_MOST;
+use terms::refusal::{Fault, Refusal};
 
-// What a whole report is answered: document 01's number, the place, how many elements there are and
-// how many of them are selected. Refused: elements and selected are 0.
+// What C is told of a whole report: document 01's number, the place, how many elements there are and how
+// many of them are selected. Refused: elements and selected are 0.
 #[repr(C)]
 #[derive(Clone, Copy)]
 pub struct Evaluation {
@@ -23,62 +22,49 @@ pub struct Evaluation {
     pub selected: u32,
 }
 
+// What is counted of an accepted report: how many elements there are, and how many of them are selected.
+#[derive(Clone, Copy)]
+pub struct Counted {
+    pub elements: usize,
+    pub selected: usize,
+}
+
 // The answer, and how many entries the rule has; 0 where it is refused.
 #[derive(Clone, Copy)]
 pub struct Marking {
-    pub answer: Evaluation,
+    pub answer: Result<Counted, Refusal>,
     pub entries: usize,
-}
-
-// A refusal.
-fn refuse(number: u32, place: usize) -> Evaluation
-    requires { place ≤ report_most }
-    ensures { result ≡ evaluation_of (Refused number place) 0 }
-{
-    Evaluation {
-        number: number,
-        place: place as u32,
-        elements: 0,
-        selected: 0,
-    }
 }
 
 // Marks a report's elements with an accepted rule's entries.
 fn mark_by_entries(
-    entries: usize,
-    table: &[u16; ENTRY_PLACES],
+    entries: &[Entry],
     report: &[u8],
     labels: &mut [u16],
     levels: &mut [u16],
     ups: &mut [u16],
     lefts: &mut [u16],
     marks: &mut [u64],
-) -> Evaluation
-    requires { RuleEntries (entries_in entries table.now) }
-    ensures { MarkedBy (entries_in entries table.now) report.now labels.old levels.old ups.old lefts.old marks.old result labels.new levels.new ups.new lefts.new marks.new }
+) -> Result<Counted, Refusal>
+    requires { RuleEntries entries.now }
+    ensures { MarkedBy entries.now report.now labels.old levels.old ups.old lefts.old marks.old result labels.new levels.new ups.new lefts.new marks.new }
 {
-    match lay_out(report, labels, levels, ups, lefts) {
-        Answer::Accepted(n) => {
-            if lacks_room(
-                labels.len(),
-                levels.len(),
-                ups.len(),
-                lefts.len(),
-                marks.len(),
-                n,
-            ) {
-                return refuse(9, 0);
-            }
-            let selected = mark_elements(entries, table, n, labels, ups, lefts, marks);
-            Evaluation {
-                number: 0,
-                place: 0,
-                elements: n as u32,
-                selected: selected as u32,
-            }
-        }
-        Answer::Refused(number, place) => refuse(number, place),
+    let n = lay_out(report, labels, levels, ups, lefts)?;
+    if lacks_room(
+        labels.len(),
+        levels.len(),
+        ups.len(),
+        lefts.len(),
+        marks.len(),
+        n,
+    ) {
+        return Err(Fault::Room.at(0));
     }
+    let selected = mark_elements(entries, n, labels, ups, lefts, marks);
+    Ok(Counted {
+        elements: n,
+        selected,
+    })
 }
 
 // Reads a rule and a report, once each, lays the report out in the lent columns, and writes a word for
@@ -95,17 +81,28 @@ pub fn mark_report(
 ) -> Marking
     ensures { ReportMarked rule.now report.now labels.old levels.old ups.old lefts.old marks.old result labels.new levels.new ups.new lefts.new marks.new }
 {
-    let mut table = [0u16; ENTRY_PLACES];
+    let none = Entry {
+        kind: 0,
+        a: 0,
+        b: 0,
+    };
+    let mut table = [none; ENTRIES_MOST];
     match read_entries(rule, &mut table) {
-        Answer::Accepted(entries) => {
+        Ok(entries) => {
             let answer = mark_by_entries(
-                entries, &table, report, labels, levels, ups, lefts, marks,
+                &table[..entries],
+                report,
+                labels,
+                levels,
+                ups,
+                lefts,
+                marks,
             );
             Marking { answer, entries }
         }
-        Answer::Refused(number, place) => {
-            let answer = refuse(number, place);
-            Marking { answer, entries: 0 }
-        }
+        Err(refusal) => Marking {
+            answer: Err(refusal),
+            entries: 0,
+        },
     }
 }

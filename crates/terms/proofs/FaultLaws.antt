@@ -2,10 +2,10 @@
 use Prim.Native.Nat.{ℕ, ◌-◌}
 use native.Mathlib.Omega.{arith}
 use mathlib.Core.Path.{◌≡◌, refl, sym, ap, ◌∙◌}
-use mathlib.Core.List.{List, [], ◌∷◌}
+use mathlib.Core.List.{[], ◌∷◌}
 use lib.ListN.{get_or}
 use Rattle.std.specs.Prelude.{Result, Ok, Err}
-use Rattle.terms.specs.Answer.{Answer, Accepted, Refused, count_of, number_of, place_of, number_of_fault, answered, fault_number}
+use Rattle.terms.specs.Answer.{Answer, count_of, number_of, place_of, number_of_fault, answered, fault_number}
 use Rattle.terms.specs.declared.refusal.Fault.{Fault}
 use Rattle.terms.specs.declared.refusal.Fault.TheVariants.{RuleSize, RuleRecord, RuleNumbers, RuleEntries, ReportSize, ReportRecord, Nesting, ReportLimits, Room, LooksAhead, State, Tally, Text, TextEntries}
 use Rattle.terms.specs.declared.refusal.Refusal.{Refusal}

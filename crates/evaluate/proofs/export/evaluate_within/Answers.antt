@@ -1,13 +1,23 @@
--- `evaluate_within`: columns with room for the report's elements. Assumes nothing.
-use Prim.Native.Nat.{ℕ}
-use mathlib.Core.Logic.{⊎_elim}
-use lib.ListN.{length-replicate}
-use Rattle.layout.proofs.LayoutLaws.{room-by-size, room-for-any}
-use Rattle.marking.proofs.AnswerLaws.{marked-evaluated}
+-- `evaluate_within`: columns with room for the report's elements, and numbers that fit those of C. Assumes nothing.
+use native.Mathlib.Omega.{arith}
+use Rattle.marking.proofs.AnswerLaws.{evaluated-small}
+use Rattle.evaluate.proofs.Enough.{enough-evaluated}
 use Rattle.evaluate.proofs.export.evaluate_within.Goals as goal
 
-pub returns : goal.returns
-returns g c =
-    let n = g.row.N in
-    let l = length-replicate {A = ℕ} n 0 in
-    marked-evaluated _ _ _ _ _ _ _ (⊎_elim (room-by-size _ n _ _ _ _ l l l l) (room-for-any _ n _ _ _ _ l l l l) c.requires.enough) c.mark_report.ensures
+pub overflow_cast-result : goal.overflow_cast-result
+overflow_cast-result g c =
+    omega (arith, (evaluated-small (enough-evaluated g.row.N _ c.requires.enough c.mark_report-marking.ensures c.in-Ok.is)).elements_in)
+
+pub overflow_cast-result-in-Ok : goal.overflow_cast-result-in-Ok
+overflow_cast-result-in-Ok g c =
+    omega (arith, (evaluated-small (enough-evaluated g.row.N _ c.requires.enough c.mark_report-marking.ensures c.in-Ok.is)).selected_in)
+
+pub overflow_cast-result-in-Err : goal.overflow_cast-result-in-Err
+overflow_cast-result-in-Err g c =
+    omega (arith, (evaluated-small (enough-evaluated g.row.N _ c.requires.enough c.mark_report-marking.ensures c.in-Err.is)).place_in)
+
+pub returns-in-Ok : goal.returns-in-Ok
+returns-in-Ok g c = enough-evaluated g.row.N _ c.requires.enough c.mark_report-marking.ensures c.in-Ok.is
+
+pub returns-in-Err : goal.returns-in-Err
+returns-in-Err g c = rw c.into.ensures (enough-evaluated g.row.N _ c.requires.enough c.mark_report-marking.ensures c.in-Err.is)

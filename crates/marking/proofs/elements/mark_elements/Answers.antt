@@ -4,20 +4,8 @@ use mathlib.Core.Path.{sym, ap, ◌∙◌}
 use lib.ListN.{length, take, length-replicate}
 use lib.Seq.{length-take-le}
 use Rattle.marking.proofs.PassLaws.{clear_room}
-use Rattle.marking.proofs.KindLaws.{table-few, table-last, marked-first}
+use Rattle.marking.proofs.KindLaws.{last-bit, marked-first}
 use Rattle.marking.proofs.elements.mark_elements.Goals as goal
-
-pub slice_bounds-words-end-2 : goal.slice_bounds-words-end-2
-slice_bounds-words-end-2 c = sym (length-take-le _ _ c.requires.n_in_bounds.3)
-
-pub slice_bounds-mark_entries-end : goal.slice_bounds-mark_entries-end
-slice_bounds-mark_entries-end c = sym (length-take-le _ _ c.requires.n_in_bounds.0)
-
-pub slice_bounds-mark_entries-end-2 : goal.slice_bounds-mark_entries-end-2
-slice_bounds-mark_entries-end-2 c = sym (length-take-le _ _ c.requires.n_in_bounds.1)
-
-pub slice_bounds-mark_entries-end-3 : goal.slice_bounds-mark_entries-end-3
-slice_bounds-mark_entries-end-3 c = sym (length-take-le _ _ c.requires.n_in_bounds.2)
 
 pub mark_entries-requires : goal.mark_entries-requires
 mark_entries-requires c =
@@ -32,12 +20,6 @@ mark_entries-requires c =
       columns = q.columns;
     }
 
-pub overflow_sub-entries : goal.overflow_sub-entries
-overflow_sub-entries c =
-    let p = c.args in
-    let q = c.requires in
-    (table-few p.entries p.table.now q.rule_entries).0
-
 pub returns : goal.returns
 returns c = λ levels columns.
     let p = c.args in
@@ -46,4 +28,4 @@ returns c = λ levels columns.
     let m = length-take-le p.n p.marks.now q.n_in_bounds.3 in
     let z = c.clear.ensures in
     marked-first levels (take p.n p.labels.now) _ p.n _ n q.n_in_bounds.3 (ap length z ∙ length-replicate _ _ ∙ m) (c.mark_entries.ensures levels columns)
-    (rw (← table-last p.entries p.table.now q.rule_entries) c.count_with_bit.ensures)
+    (rw (← last-bit p.entries.now q.rule_entries) c.count_with_bit.ensures)

@@ -1,13 +1,10 @@
 -- `mark_entries`: the words have the marks of the entries passed. Assumes nothing.
-use Prim.Native.Nat.{ℕ, ◌≤◌}
+use Prim.Native.Nat.{ℕ}
 use mathlib.Core.List.{List}
 use lib.ListN.{length}
-use Rattle.terms.specs.Limits.{entries_most}
-use Rattle.grammar.specs.Table.{entries_in}
 use Rattle.marking.specs.Pass.{Stored, Columns}
 use Rattle.marking.proofs.KindLaws.{word_up_to}
 use Rattle.marking.proofs.passes.mark_entries.Given as goal
 
 abbrev pub invariant-loop-i : goal.invariant-loop-i
-invariant-loop-i l =
-    (l.entries ≤ entries_most) × ((levels : List ℕ) → Columns levels l.labels l.ups l.lefts → Stored (length levels) (word_up_to levels l.labels (entries_in l.entries l.table) l.i) l.initial.marks l.marks)
+invariant-loop-i l = (levels : List ℕ) → Columns levels l.labels l.ups l.lefts → Stored (length levels) (word_up_to levels l.labels l.entries l.i) l.initial.marks l.marks
