@@ -1,25 +1,24 @@
--- Laws of the rows, and of a part of one word: one for each return, over plain lists and numbers. Assumes nothing.
+-- Laws of the functions that make a part of another, and of the rows: one for each return, over plain lists and numbers.
+-- Assumes nothing.
 use Prim.Native.Nat.{ℕ, zero, suc, ◌+◌, ◌-◌, ◌*◌, ◌≤◌, ◌<◌}
 use native.Mathlib.Numerals.{add-one}
 use native.Mathlib.Omega.{arith}
-use mathlib.Core.Path.{◌≡◌, refl, ap}
-use Rattle.std.specs.Prelude.{Result, Ok, Err, IsErr, IsErrAnd}
-use mathlib.Core.Bool.{true}
+use mathlib.Core.Path.{◌≡◌, refl}
+use mathlib.Core.Bool.{Bool, true, false}
 use mathlib.Core.List.{List}
 use borrow.Author.Tests.{le-leb, lt-leb}
 use lib.ListN.{set}
-use Rattle.parse.specs.declared.tree.Part.{Part}
+use Rattle.std.specs.Prelude.{Result, Ok, Err}
+use Rattle.words.specs.declared.words.Stray.{Stray}
+use Rattle.parse.specs.declared.tree.Parsed.{Parsed}
+use Rattle.parse.specs.declared.tree.Parsed.TheVariants.{Done, Bad}
+use Rattle.spell.specs.Forms.{form_entries, form_bytes}
 use Rattle.words.specs.Begins.{leaf_tree}
+use Rattle.words.proofs.Reading.{WordAt}
 use Rattle.parse.specs.Rows.{note_row, note_t}
-use Rattle.parse.specs.Promises.{leaf_bytes}
+use Rattle.parse.specs.Promises.{leaf_bytes, Small, Shut, Closing, Excepted, EitherOf, StepOf}
 use Rattle.terms.specs.Limits.{entries_most}
-
--- ---- `?`
-
--- What `?` hands on is the error that it was given.
-pub handed-on : {A E : Type 0} (r : Result A E) {e : E} → IsErr r × IsErrAnd r (λ (x : E). x ≡ e) → r ≡ Err e
-handed-on (Ok x) (i, h) = absurd h
-handed-on (Err x) (i, h) = ap Err h
+use Rattle.paths.specs.Answer.{text_most}
 
 -- ---- rows
 
@@ -37,17 +36,55 @@ module _ (rows : List ℕ) (n form a b : ℕ) where
 
 -- ---- parts
 
-module _ (end label k : ℕ) (rows after : List ℕ) where
-  -- A part of one word, that takes so many bytes.
-  abbrev one : (bytes : ℕ) → Part
-  one b = record { end = end; word = true; entries = 1; bytes = b }
+-- The numbers of a part that was read are small.
+pub small_of : (p : Parsed) (e : ℕ) (v : Bool) (n b : ℕ) → p ≡ Done e v n b → Small p → (n ≤ text_most) × (b ≤ 8192)
+small_of p e v n b q h = rw q at h
 
-  pub leaf-true : label ≡ 0 → after ≡ note_row rows (k + 1) 1 0 0 → (one 4 ≡ one (leaf_bytes label)) × (after ≡ note_t (leaf_tree label) k rows)
+module _ (e label k : ℕ) (rows after : List ℕ) where
+  pub leaf-true : label ≡ 0 → after ≡ note_row rows (k + 1) 1 0 0
+      → (Done e true 1 4 ≡ Done e true 1 (leaf_bytes label)) × (after ≡ note_t (leaf_tree label) k rows)
   unfolding leaf_bytes leaf_tree note_t
   leaf-true z h = rw z (refl, h)
 
-pub leaf-label : (end label k : ℕ) (rows after : List ℕ) → (label ≡ 0 → ⊥) → after ≡ note_row rows (k + 1) 2 label 0
-    → (one end label k rows after 6 ≡ one end label k rows after (leaf_bytes label)) × (after ≡ note_t (leaf_tree label) k rows)
+pub leaf-label : (e label k : ℕ) (rows after : List ℕ) → (label ≡ 0 → ⊥) → after ≡ note_row rows (k + 1) 2 label 0
+    → (Done e true 1 6 ≡ Done e true 1 (leaf_bytes label)) × (after ≡ note_t (leaf_tree label) k rows)
 unfolding leaf_bytes leaf_tree note_t
-leaf-label end zero k rows after z h = absurd (z refl)
-leaf-label end (suc l) k rows after z h = (refl, h)
+leaf-label e zero k rows after z h = absurd (z refl)
+leaf-label e (suc l) k rows after z h = (refl, h)
+
+module _ (p : Parsed) (q : ℕ) (bad : p ≡ Bad q) where
+  pub except-bad : (k : ℕ) (rows after : List ℕ) → Excepted p k rows (Bad q) after
+  except-bad k rows after = rw bad
+
+  pub either-bad : (k n b : ℕ) (rows after : List ℕ) → EitherOf p k n b rows (Bad q) after
+  either-bad k n b rows after = rw bad
+
+  pub closing-bad : Closing p (Bad q)
+  closing-bad = rw bad
+
+  pub shut-bad : (x s : List ℕ) → Shut x s p (Bad q)
+  shut-bad x s = rw bad
+
+  pub step-bad : (k form before : ℕ) (rows after : List ℕ) → StepOf p k form before rows (Bad q) after
+  step-bad k form before rows after = rw bad
+
+module _ (p : Parsed) (e : ℕ) (v : Bool) (n b : ℕ) (done : p ≡ Done e v n b) where
+  pub except-done : (k : ℕ) (rows after : List ℕ) → after ≡ note_row rows (k + n + 1) 3 (k + n) 0
+      → Excepted p k rows (Done e v (n + 1) (b + 6)) after
+  except-done k rows after h = rw done (refl, h)
+
+  pub either-done : (k m c : ℕ) (rows after : List ℕ) → after ≡ note_row rows (k + n + 1) 4 k (k + n) → EitherOf p k m c rows (Done e v (n + m + 1) (b + c + 8)) after
+  either-done k m c rows after h = rw done (refl, h)
+
+  pub step-done : (k form before own bytes : ℕ) (rows after : List ℕ) → own ≡ form_entries form → bytes ≡ form_bytes form
+      → after ≡ note_row rows (k + n + own) form (k + n) before → StepOf p k form before rows (Done e v (n + own) (b + bytes)) after
+  step-done k form before own bytes rows after i j h = rw (done, ← i, ← j) (refl, h)
+
+  pub closing-done : Closing p (Done e v (n + 1) (b + 4))
+  closing-done = rw done
+
+  pub shut-missing : (x s : List ℕ) (q : Stray) (w : Result ℕ Stray) → w ≡ Err q → WordAt x s e w → Shut x s p (Bad q.place)
+  shut-missing x s q w j h = rw done (Err q, rw j at h, refl)
+
+  pub shut-there : (x s : List ℕ) (f : ℕ) (w : Result ℕ Stray) → w ≡ Ok f → WordAt x s e w → Shut x s p (Done f false n b)
+  shut-there x s f w j h = rw done (Ok f, rw j at h, refl)

@@ -19,11 +19,11 @@ use Rattle.paths.proofs.Count.{table-count, table-bytes}
 use Rattle.paths.proofs.Unambiguous.{text-only}
 use Rattle.paths.proofs.Answer.{gets-only}
 use Rattle.paths.proofs.Place.{run-halts, halts-stops, text-iff}
+use Rattle.parse.specs.declared.tree.Parsed.TheVariants.{Done, Bad}
 use Rattle.std.specs.Prelude.{Result, Ok, Err, is_err}
 use Rattle.words.specs.declared.words.Stray.{Stray}
-use Rattle.parse.specs.declared.tree.Part.{Part}
-use Rattle.parse.specs.declared.tree.Counts.{Counts}
 use Rattle.words.specs.Words.{stray}
+use Rattle.parse.specs.declared.tree.Counts.{Counts}
 use Rattle.parse.specs.Rows.{no_rows}
 use Rattle.parse.specs.Promises.{TestParsed, Read, TreeRead}
 
@@ -43,20 +43,19 @@ stops-here s p l e =
       same : (q : ℕ) → q ≤ length s → s ≡ take q s ++ drop p s → q ≡ p
       same q i k = omega (arith, ap length k, length-append (take q s) (drop p s), length-take q s, length-drop p s)
 
-pub read-stops : (s rows : List ℕ) (e : Stray) → TestParsed false s 0 0 rows (Err e) rows → Read s rows (Err e) rows
-read-stops s rows e (m, g) = stops-here s e.place m (g [])
+pub read-bad : (s rows : List ℕ) (p : ℕ) → TestParsed false s 0 0 rows (Bad p) rows → Read s rows (stray p) rows
+read-bad s rows p (m, g) = stops-here s p m (g [])
 
-module _ (s rows after : List ℕ) (p : Part) (x : TestParsed false s 0 0 rows (Ok p) after) where
-  pub read-over : (p.end ≡ length s → ⊥) → Read s rows (stray p.end) after
-  read-over h =
-      let f = x.0 in stops-here s p.end f.within (x.1 [] ∙ over p.word (drop p.end s) (omega (arith, length-drop p.end s, lt_of_le-ne f.within h)))
+module _ (s rows after : List ℕ) where
+  pub read-over : (e n b : ℕ) (v : Bool) → TestParsed false s 0 0 rows (Done e v n b) after → (e ≡ length s → ⊥) → Read s rows (stray e) after
+  read-over e n b v (f, g, t) h =
+      stops-here s e f.within (g [] ∙ over v (drop e s) (omega (arith, length-drop e s, lt_of_le-ne f.within h)))
 
-  pub read_whole : p.end ≡ length s → Read s rows (Ok (record { entries = p.entries; bytes = p.bytes })) after
+  pub read_whole : (e n b : ℕ) (v : Bool) → TestParsed false s 0 0 rows (Done e v n b) after → e ≡ length s → Read s rows (Ok (record { entries = n; bytes = b })) after
   unfolding text_of
-  read_whole h =
-      let t = x.2 in
-      let y : length s ≤ p.end = omega arith in
-      let w : drop p.end s ≡ [] = drop_of_length-le s y in (
+  read_whole e n b v (f, g, t) h =
+      let y : length s ≤ e = omega arith in
+      let w : drop e s ≡ [] = drop_of_length-le s y in (
         t.tree,
         t.labels,
         t.reads ∙ rw (w, spell-ahead false (pieces_t t.tree [])),

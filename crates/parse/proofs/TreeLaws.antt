@@ -17,29 +17,45 @@ use Rattle.paths.proofs.Ahead.{ahead, wordy_t, wordy_s, ahead-test, ahead_step}
 use Rattle.paths.proofs.Count.{weight_t, weight_s, while_weight, record_length}
 use Rattle.paths.proofs.Complete.{run-or}
 use Rattle.paths.proofs.Descent.{spelt, test-opens, test_path, step-test, path-on, path-ends}
-use Rattle.std.specs.Prelude.{Result, Ok, Err}
+use Rattle.std.specs.Prelude.{Ok, Err}
 use Rattle.words.specs.declared.words.Stray.{Stray}
 use Rattle.words.specs.declared.begins.Begin.TheVariants as B
 use Rattle.words.specs.declared.begins.Start.TheVariants as S
-use Rattle.parse.specs.declared.tree.Part.{Part}
+use Rattle.parse.specs.declared.tree.Parsed.{Parsed}
+use Rattle.parse.specs.declared.tree.Parsed.TheVariants.{Done, Bad}
 use Rattle.spell.specs.Forms.{form_entries, form_bytes}
 use Rattle.spell.proofs.FormLaws.{entries-few, bytes-few}
 use Rattle.parse.specs.Rows.{note_row, form_of, test_entries, test_bytes, step_row, note_t, note_p, note_s, entries_t, entries_s}
-use Rattle.parse.specs.Promises.{leaf_bytes, Small, Shut, excepted, either_of, step_of, closed, TestParsed, PathParsed, StepParsed, Went}
-use Rattle.words.specs.Words.{head_of, stray}
+use Rattle.parse.specs.Promises.{leaf_bytes, Small, Ends, Shut, Closing, Excepted, EitherOf, StepOf, TestParsed, PathParsed, StepParsed, Went}
+use Rattle.words.specs.Words.{head_of}
 use Rattle.words.specs.Begins.{leaf_tree}
-use Rattle.words.proofs.Reading.{WordAt, OrAt, LeafAt, BeginsAt, StartAt, StepReads, plain_step, plain_form}
+use Rattle.words.proofs.Reading.{OrAt, LeafAt, BeginsAt, StartAt, StepReads, plain_step, plain_form}
 use Rattle.words.proofs.WordLaws.{front}
 use Rattle.paths.specs.Answer.{text_most}
 
 -- ---- what a caller needs of a part: its counts are small, it ends within the bytes
 
-module _ (s : List ℕ) (at k : ℕ) (rows : List ℕ) (p : Part) (after : List ℕ) (l : length s ≤ text_most) where
-  pub test-small : (w : Bool) → TestParsed w s at k rows (Ok p) after → Small p
-  test-small w (f, g, t) = (omega arith, omega arith)
+module _ (s : List ℕ) (at k : ℕ) (rows : List ℕ) where
+  pub test-small : (w : Bool) (p : Parsed) (after : List ℕ) → length s ≤ text_most → TestParsed w s at k rows p after → Small p
+  test-small w (Done e v n b) after l (f, g, t) = (omega arith, omega arith)
+  test-small w (Bad q) after l h = tt
 
-  pub path-small : PathParsed s at k rows (Ok p) after → Small p
-  path-small (f, i, g, t) = (omega arith, omega arith)
+  pub path-small : (p : Parsed) (after : List ℕ) → length s ≤ text_most → PathParsed s at k rows p after → Small p
+  path-small (Done e v n b) after l (f, i, g, t) = (omega arith, omega arith)
+  path-small (Bad q) after l h = tt
+
+  pub test-ends : (w : Bool) (p : Parsed) (after : List ℕ) → TestParsed w s at k rows p after → Ends s p
+  test-ends w (Done e v n b) after (f, g, t) = f.within
+  test-ends w (Bad q) after h = tt
+
+  pub either-ends : (w : Bool) (p r : Parsed) (mid after : List ℕ) (m n b : ℕ) → TestParsed w s at k rows p mid → EitherOf p m n b mid r after → Ends s r
+  either-ends w (Done e v j c) r mid after m n b (f, g, t) (i, h) = rw i f.within
+  either-ends w (Bad q) r mid after m n b x i = rw i tt
+
+  pub shut-small : (w : Bool) (x : List ℕ) (p r : Parsed) (after : List ℕ) → length s ≤ text_most → TestParsed w s at k rows p after → Shut x s p r → Small r
+  shut-small w x (Done e v n b) r after l (f, g, t) (Ok q, h, i) = rw i (omega arith, omega arith)
+  shut-small w x (Done e v n b) r after l (f, g, t) (Err q, h, i) = rw i tt
+  shut-small w x (Bad q) r after l h i = rw i tt
 
 -- ---- `true`, label N
 
@@ -49,9 +65,8 @@ unfolding leaf_tree leaf_bytes weight_t wordy_t record_length row_of
 leaf-counts zero = (refl, refl, refl, omega arith)
 leaf-counts (suc l) = (refl, refl, refl, omega arith)
 
-pub leaf-law : (w : Bool) (s : List ℕ) (at k e label : ℕ) (rows after : List ℕ) (r : Part) → LeafAt w s at e label
-    → r ≡ record { end = e; word = true; entries = 1; bytes = leaf_bytes label } → after ≡ note_t (leaf_tree label) k rows
-    → TestParsed w s at k rows (Ok r) after
+pub leaf-law : (w : Bool) (s : List ℕ) (at k e label : ℕ) (rows after : List ℕ) (r : Parsed) → LeafAt w s at e label
+    → r ≡ Done e true 1 (leaf_bytes label) → after ≡ note_t (leaf_tree label) k rows → TestParsed w s at k rows r after
 leaf-law w s at k e label rows after r x z h =
     let (i, j, q, m) = leaf-counts label in
     rw z (
@@ -62,51 +77,45 @@ leaf-law w s at k e label rows after r x z h =
 
 -- ---- not TEST, <PATH>
 
-module _ (w : Bool) (s : List ℕ) (at k : ℕ) (rows after : List ℕ) where
-  module _ (f : ℕ) (x : BeginsAt w s at (Ok (B.Not f))) where
-    pub except-law : (p r : Part) (mid : List ℕ) → TestParsed true s f k rows (Ok p) mid → r ≡ excepted p
-        → after ≡ note_row mid (k + p.entries + 1) 3 (k + p.entries) 0 → TestParsed w s at k rows (Ok r) after
-    unfolding ahead pieces_t wordy_t weight_t GoodT record_length row_of note_t
-    except-law p r mid (i, y, t) z h =
-        rw z (
-          record { on = omega (arith, x.0, i.on); within = i.within; entries_fit = omega (arith, x.0, i.entries_fit); bytes_fit = omega (arith, i.bytes_fit) },
-          λ K. x.3 K ∙ y K,
-          record {
-            tree = except t.tree;
-            labels = t.labels;
-            ends = t.ends;
-            reads = x.2 ∙ ap (λ (x : List ℕ). gap w ++ (not_word ++ x)) t.reads;
-            counts = omega (arith, t.counts);
-            weighs = omega (arith, t.weighs);
-            noted = h ∙ rw (t.noted, t.counts);
-          },
-        )
+module _ (w : Bool) (s : List ℕ) (at k : ℕ) (rows after : List ℕ) (r : Parsed) where
+  pub except-law : (f : ℕ) (p : Parsed) (mid : List ℕ) → BeginsAt w s at (Ok (B.Not f)) → TestParsed true s f k rows p mid → Excepted p k mid r after
+      → TestParsed w s at k rows r after
+  unfolding ahead pieces_t wordy_t weight_t GoodT record_length row_of note_t
+  except-law f (Done e v m b) mid (l, i, q, g) (x, y, t) (z, h) =
+      rw z (
+        record { on = omega arith; within = x.within; entries_fit = omega arith; bytes_fit = omega arith },
+        λ K. g K ∙ y K,
+        record {
+          tree = except t.tree;
+          labels = t.labels;
+          ends = t.ends;
+          reads = q ∙ ap (λ (x : List ℕ). gap w ++ (not_word ++ x)) t.reads;
+          counts = omega (arith, t.counts);
+          weighs = omega (arith, t.weighs);
+          noted = h ∙ rw (t.noted, t.counts);
+        },
+      )
+  except-law f (Bad x) mid (l, i, q, g) (m, y) z = rw z (m, λ K. g K ∙ y K)
 
-    pub except-stops : (e : Stray) → TestParsed true s f k rows (Err e) rows → TestParsed w s at k rows (Err e) rows
-    except-stops e (m, y) = (m, λ K. x.3 K ∙ y K)
-
-  module _ (h : head_of (drop at s) ≡ 60) where
-    pub begins-law : (p r : Part) → PathParsed s (at + 1) (k + 1) rows (Ok p) after → r ≡ closed p → TestParsed w s at k rows (Ok r) after
-    unfolding ahead pieces_t wordy_t weight_t GoodT record_length row_of sign_byte note_t
-    begins-law p r (f, i, g, t) z =
-        let (l, q) = front s at 60 h (omega arith) in
-        rw (z, i) (
-          record { on = omega (arith, f.on); within = f.within; entries_fit = omega (arith, f.entries_fit); bytes_fit = omega (arith, f.bytes_fit) },
-          λ K. rw q (test_path w K (drop (at + 1) s)) ∙ g K,
-          record {
-            tree = begins t.tree;
-            labels = t.labels;
-            ends = refl;
-            reads = q ∙ ap (◌∷◌ 60) t.reads;
-            counts = omega (arith, t.counts);
-            weighs = omega (arith, t.weighs);
-            noted = t.noted;
-          },
-        )
-
-    pub begins-stops : (e : Stray) → PathParsed s (at + 1) (k + 1) rows (Err e) rows → TestParsed w s at k rows (Err e) rows
-    begins-stops e (m, g) =
-        let q = (front s at 60 h (omega arith)).1 in (m, λ K. rw q (test_path w K (drop (at + 1) s)) ∙ g K)
+  pub begins-law : (p : Parsed) → head_of (drop at s) ≡ 60 → PathParsed s (at + 1) (k + 1) rows p after → Closing p r → TestParsed w s at k rows r after
+  unfolding ahead pieces_t wordy_t weight_t GoodT record_length row_of sign_byte note_t
+  begins-law (Done e v m b) h (f, i, g, t) z =
+      let (l, q) = front s at 60 h (omega arith) in
+      rw (z, i) (
+        record { on = omega arith; within = f.within; entries_fit = omega arith; bytes_fit = omega arith },
+        λ K. rw q (test_path w K (drop (at + 1) s)) ∙ g K,
+        record {
+          tree = begins t.tree;
+          labels = t.labels;
+          ends = refl;
+          reads = q ∙ ap (◌∷◌ 60) t.reads;
+          counts = omega (arith, t.counts);
+          weighs = omega (arith, t.weighs);
+          noted = t.noted;
+        },
+      )
+  begins-law (Bad x) h (m, g) z =
+      let q = (front s at 60 h (omega arith)).1 in rw z (m, λ K. rw q (test_path w K (drop (at + 1) s)) ∙ g K)
 
 -- ---- (TEST or TEST)
 
@@ -114,8 +123,8 @@ closes : (l : List ℕ) (v : Bool) (K : List Expected) → run v (byte 41 ∷ K)
 unfolding run next choices pick is_word is_digit
 closes l v K = refl
 
-closes_at : (m l : List ℕ) (v : Bool) (K : List Expected) → m ≡ 41 ∷ l → run v (byte 41 ∷ K) m ≡ run false K l
-closes_at m l v K q = rw q (closes l v K)
+closed : (m l : List ℕ) (v : Bool) (K : List Expected) → m ≡ 41 ∷ l → run v (byte 41 ∷ K) m ≡ run false K l
+closed m l v K q = rw q (closes l v K)
 
 or-text : (w : Bool) (t u : Test) (r : List ℕ)
     → 40 ∷ ahead false (pieces_t t []) (gap (wordy_t t) ++ (or_word ++ ahead true (pieces_t u []) (41 ∷ r))) ≡ ahead w (pieces_t (either t u) []) r
@@ -137,48 +146,48 @@ module _ (w : Bool) (s : List ℕ) (at k : ℕ) (rows : List ℕ) (h : head_of (
   opened K = let q = (front s at 40 h (omega arith)).1 in rw q (test-opens w K (drop (at + 1) s))
 
   -- (Of a part that stops nothing is said of the rows, so any stand for them.)
-  pub either-left : (e : Stray) → TestParsed false s (at + 1) k rows (Err e) rows → TestParsed w s at k rows (Err e) rows
-  either-left e (m, g) = (m, λ K. opened K ∙ g _)
+  pub either_left : (p : ℕ) → TestParsed false s (at + 1) k rows (Bad p) rows → TestParsed w s at k rows (Bad p) rows
+  either_left p (m, g) = (m, λ K. opened K ∙ g _)
 
-  module _ (l : Part) (mid : List ℕ) (x : TestParsed false s (at + 1) k rows (Ok l) mid) where
-    pub either-word : (e : Stray) → OrAt l.word s l.end (Err e) → TestParsed w s at k rows (Err e) rows
-    either-word e (m, g) = (m, λ K. opened K ∙ x.1 _ ∙ g _)
+  module _ (e n b : ℕ) (v : Bool) (mid : List ℕ) (x : TestParsed false s (at + 1) k rows (Done e v n b) mid) where
+    pub either-word : (p : Stray) → OrAt v s e (Err p) → TestParsed w s at k rows (Bad p.place) rows
+    either-word p (m, g) = (m, λ K. opened K ∙ x.1 _ ∙ g _)
 
-    module _ (f : ℕ) (o : OrAt l.word s l.end (Ok f)) where
+    module _ (f : ℕ) (o : OrAt v s e (Ok f)) where
       read-or : (K : List Expected) → run w (test ∷ K) (drop at s) ≡ run true (test ∷ byte 41 ∷ K) (drop f s)
       read-or K = opened K ∙ x.1 _ ∙ or-read _ where
-        or-read : (K : List Expected) → run l.word (alternative ∷ K) (drop l.end s) ≡ run true K (drop f s)
-        or-read K = let q = o.2 in rw q (run-or K l.word (drop f s))
+        or-read : (K : List Expected) → run v (alternative ∷ K) (drop e s) ≡ run true K (drop f s)
+        or-read K = let q = o.2 in rw q (run-or K v (drop f s))
 
-      pub either-right : (e : Stray) → TestParsed true s f (k + l.entries) mid (Err e) mid → TestParsed w s at k rows (Err e) rows
-      either-right e (m, g) = (m, λ K. read-or K ∙ g _)
-
-      pub either-law : (p m : Part) (r : Result Part Stray) (next after : List ℕ) → TestParsed true s f (k + l.entries) mid (Ok p) next → m ≡ either_of l p
-          → after ≡ note_row next (k + l.entries + p.entries + 1) 4 (k + l.entries) (k + l.entries + p.entries) → Shut (41 ∷ []) s m r
-          → TestParsed w s at k rows r after
+      either-done : (d j c : ℕ) (u : Bool) (next after : List ℕ) (m r : Parsed) → TestParsed true s f (k + n) mid (Done d u j c) next
+          → EitherOf (Done d u j c) (k + n) n b next m after → Shut (41 ∷ []) s (Done d u (j + n + 1) (c + b + 8)) r → TestParsed w s at k rows r after
       unfolding wordy_t weight_t GoodT record_length row_of spelt
-      either-law p m r next after (i, g, t) z y (Err q, u, j) = rw j (u.0, λ K. read-or K ∙ g _ ∙ (rw z at u.1) p.word K)
-      either-law p m r next after (i, g, t) z y (Ok a, u, j) =
+      either-done d j c u next after m r (l, g, t) y (Err q, (a, z), i) = rw i (a, λ K. read-or K ∙ g _ ∙ z u K)
+      either-done d j c u next after m r (l, g, t) y (Ok a, (k1, k2, k3), i) =
           let left = x.2 in
-          let (k1, k2, k3) : WordAt (41 ∷ []) s p.end (Ok a) = rw z at u in
-          rw (j, z) (
+          rw i (
             record {
-              on = omega (arith, x.0.on, i.on, o.0);
+              on = omega (arith, x.0.on, l.on, o.0);
               within = k2;
-              entries_fit = omega (arith, x.0.entries_fit, i.entries_fit, o.0);
-              bytes_fit = omega (arith, x.0.bytes_fit, i.bytes_fit);
+              entries_fit = omega (arith, x.0.entries_fit, l.entries_fit, o.0);
+              bytes_fit = omega (arith, x.0.bytes_fit, l.bytes_fit);
             },
-            λ K. read-or K ∙ g _ ∙ closes_at (drop p.end s) (drop a s) p.word K k3,
+            λ K. read-or K ∙ g _ ∙ closed (drop d s) (drop a s) u K k3,
             record {
               tree = either left.tree t.tree;
               labels = (left.labels, t.labels);
               ends = refl;
-              reads = either-text w left.tree t.tree l.word (drop a s) (front s at 40 h (omega arith)).1 left.reads o.2 left.ends t.reads k3;
+              reads = either-text w left.tree t.tree v (drop a s) (front s at 40 h (omega arith)).1 left.reads o.2 left.ends t.reads k3;
               counts = omega (arith, left.counts, t.counts);
               weighs = omega (arith, left.weighs, t.weighs);
-              noted = either-noted left.tree t.tree k l.entries p.entries rows mid next after left.counts t.counts left.noted t.noted y;
+              noted = either-noted left.tree t.tree k n j rows mid next after left.counts t.counts left.noted t.noted y.1;
             },
           )
+
+      pub either-law : (p m r : Parsed) (next after : List ℕ) → TestParsed true s f (k + n) mid p next → EitherOf p (k + n) n b next m after
+          → Shut (41 ∷ []) s m r → TestParsed w s at k rows r after
+      either-law (Bad q) m r next after (l, g) z y = let i : r ≡ Bad q = rw z at y in rw i (l, λ K. read-or K ∙ g _)
+      either-law (Done d u j c) m r next after x z y = let i = z.0 in either-done d j c u next after m r x z (rw i at y)
 
 -- ---- STEP>, STEP/PATH
 
@@ -207,23 +216,23 @@ module _ (s : List ℕ) (at k : ℕ) (rows : List ℕ) where
       }
 
   module _ (from entries bytes before : ℕ) (now : List ℕ) (x : Went s at k rows from entries bytes before now) where
-    pub path-stops : (e : Stray) → StepParsed s from (k + entries) before now (Err e) now → PathParsed s at k rows (Err e) rows
-    path-stops e (l, g) = (l, λ K. x.goes K ∙ g K)
+    pub path-stops : (p : ℕ) → StepParsed s from (k + entries) before now (Bad p) now → PathParsed s at k rows (Bad p) rows
+    path-stops p (l, g) = (l, λ K. x.goes K ∙ g K)
 
-    module _ (p : Part) (after : List ℕ) (y : StepParsed s from (k + entries) before now (Ok p) after) where
-      pub path-bad : (head_of (drop p.end s) ≡ 47 → ⊥) → (head_of (drop p.end s) ≡ 62 → ⊥) → PathParsed s at k rows (stray p.end) rows
-      path-bad h1 h2 = (y.0.within, λ K. x.goes K ∙ y.1 K ∙ path-stray (drop p.end s) p.word K h1 h2)
+    module _ (e n b : ℕ) (v : Bool) (after : List ℕ) (y : StepParsed s from (k + entries) before now (Done e v n b) after) where
+      pub path-bad : (head_of (drop e s) ≡ 47 → ⊥) → (head_of (drop e s) ≡ 62 → ⊥) → PathParsed s at k rows (Bad e) rows
+      path-bad h1 h2 = (y.0.within, λ K. x.goes K ∙ y.1 K ∙ path-stray (drop e s) v K h1 h2)
 
-      on_read : head_of (drop p.end s) ≡ 47 → (K : List Expected) → run p.word (after_step ∷ K) (drop p.end s) ≡ run false (path ∷ K) (drop (p.end + 1) s)
-      on_read c K = let q = (front s p.end 47 c (omega arith)).1 in rw q (path-on p.word K (drop (p.end + 1) s))
+      on_read : head_of (drop e s) ≡ 47 → (K : List Expected) → run v (after_step ∷ K) (drop e s) ≡ run false (path ∷ K) (drop (e + 1) s)
+      on_read c K = let q = (front s e 47 c (omega arith)).1 in rw q (path-on v K (drop (e + 1) s))
 
-      end_read : head_of (drop p.end s) ≡ 62 → (K : List Expected) → run p.word (after_step ∷ K) (drop p.end s) ≡ run false K (drop (p.end + 1) s)
-      end_read c K = let q = (front s p.end 62 c (omega arith)).1 in rw q (path-ends p.word K (drop (p.end + 1) s))
+      end_read : head_of (drop e s) ≡ 62 → (K : List Expected) → run v (after_step ∷ K) (drop e s) ≡ run false K (drop (e + 1) s)
+      end_read c K = let q = (front s e 62 c (omega arith)).1 in rw q (path-ends v K (drop (e + 1) s))
 
-      pub path-ended : head_of (drop p.end s) ≡ 62 → PathParsed s at k rows (Ok (record { end = p.end + 1; word = false; entries = entries + p.entries; bytes = bytes + p.bytes })) after
+      pub path-ended : head_of (drop e s) ≡ 62 → PathParsed s at k rows (Done (e + 1) false (entries + n) (bytes + b)) after
       unfolding ahead pieces_t weight_t GoodT sign_byte note_t
       path-ended c =
-          let (l, q) = front s p.end 62 c (omega arith) in
+          let (l, q) = front s e 62 c (omega arith) in
           let t = y.2 in (
             record {
               on = omega (arith, x.on, y.0.on);
@@ -236,7 +245,7 @@ module _ (s : List ℕ) (at k : ℕ) (rows : List ℕ) where
             record {
               tree = x.whole (only t.tree);
               labels = x.labels (only t.tree) t.labels;
-              reads = x.reads (only t.tree) (drop (p.end + 1) s) (t.reads ∙ rw (q, ahead_step t.tree false (sign greater ∷ []) (drop (p.end + 1) s)));
+              reads = x.reads (only t.tree) (drop (e + 1) s) (t.reads ∙ rw (q, ahead_step t.tree false (sign greater ∷ []) (drop (e + 1) s)));
               counts = omega (arith, x.counts (only t.tree), t.counts);
               weighs = omega (arith, x.weighs (only t.tree), t.weighs);
               noted = t.noted ∙ sym (x.noted (only t.tree));
@@ -244,10 +253,10 @@ module _ (s : List ℕ) (at k : ℕ) (rows : List ℕ) where
           )
 
       -- One step more, and its `/`.
-      pub went-more : head_of (drop p.end s) ≡ 47 → Went s at k rows (p.end + 1) (entries + p.entries) (bytes + p.bytes) (k + (entries + p.entries)) after
+      pub went-more : head_of (drop e s) ≡ 47 → Went s at k rows (e + 1) (entries + n) (bytes + b) (k + (entries + n)) after
       unfolding ahead pieces_t weight_t GoodT sign_byte note_t
       went-more c =
-          let (l, q) = front s p.end 47 c (omega arith) in
+          let (l, q) = front s e 47 c (omega arith) in
           let t = y.2 in
           let st = t.tree in
           record {
@@ -256,17 +265,17 @@ module _ (s : List ℕ) (at k : ℕ) (rows : List ℕ) where
             entries_fit = omega (arith, x.entries_fit, y.0.entries_fit);
             bytes_fit = omega (arith, x.bytes_fit, y.0.bytes_fit);
             goes = λ K. x.goes K ∙ y.1 K ∙ on_read c K;
-            whole = λ o. x.whole (◌then◌ st o);
-            labels = λ o g. x.labels (◌then◌ st o) (t.labels, g);
-            reads = λ o r h.
-                x.reads (◌then◌ st o) r (t.reads ∙ rw (q, h, ahead_step st false (sign slash ∷ pieces_p o (sign greater ∷ [])) r));
-            counts = λ o. omega (arith, x.counts (◌then◌ st o), t.counts);
-            weighs = λ o. omega (arith, x.weighs (◌then◌ st o), t.weighs);
-            noted = λ o. x.noted (◌then◌ st o) ∙ more-noted o st t.counts t.noted;
+            whole = λ p. x.whole (◌then◌ st p);
+            labels = λ p g. x.labels (◌then◌ st p) (t.labels, g);
+            reads = λ p r h.
+                x.reads (◌then◌ st p) r (t.reads ∙ rw (q, h, ahead_step st false (sign slash ∷ pieces_p p (sign greater ∷ [])) r));
+            counts = λ p. omega (arith, x.counts (◌then◌ st p), t.counts);
+            weighs = λ p. omega (arith, x.weighs (◌then◌ st p), t.weighs);
+            noted = λ p. x.noted (◌then◌ st p) ∙ more-noted p st t.counts t.noted;
           } where
-            more-noted : (o : Path) (st : Step) → p.entries ≡ entries_s st → after ≡ note_s st (k + entries) before now
-                → (let m = k + entries + entries_s st in note_p o m m (note_s st (k + entries) before now)) ≡ note_p o (k + (entries + p.entries)) (k + (entries + p.entries)) after
-            more-noted o st i h = let z : k + (entries + p.entries) ≡ k + entries + entries_s st = omega arith in rw (z, h)
+            more-noted : (p : Path) (st : Step) → n ≡ entries_s st → after ≡ note_s st (k + entries) before now
+                → (let m = k + entries + entries_s st in note_p p m m (note_s st (k + entries) before now)) ≡ note_p p (k + (entries + n)) (k + (entries + n)) after
+            more-noted p st i h = let z : k + (entries + n) ≡ k + entries + entries_s st = omega arith in rw (z, h)
 
 -- ---- ?TEST, (AXIS?TEST)*
 
@@ -326,12 +335,11 @@ plain-own true a = record { labels = tt; ends = refl; is_form = refl; no_entries
 plain-own false a = record { labels = tt; ends = refl; is_form = refl; no_entries = refl; no_bytes = refl; no-rows = λ k rows. refl }
 
 -- A step whose test was read: what is known of the text, of the tree and of its test's counts and rows.
-module _ (s : List ℕ) (at k before form : ℕ) (p : Part) (rows mid after : List ℕ) (r : Part) (st : Step) where
-  step-law : at < p.end → p.end ≤ length s → at + (p.entries + form_entries form) ≤ p.end → p.bytes ≤ 8 * p.entries → StepReads (drop at s) p.word (drop p.end s)
-      → GoodS st → p.word ≡ wordy_s st → drop at s ≡ ahead false (pieces_s st []) (drop p.end s) → form ≡ form_of st → p.entries ≡ test_entries st
-      → p.bytes ≡ test_bytes st → mid ≡ note_test st k rows → r ≡ step_of p form → after ≡ note_row mid (k + r.entries) form (k + p.entries) before
-      → StepParsed s at k before rows (Ok r) after
-  step-law on within few small goes good ends reads f i j h z c =
+module _ (s : List ℕ) (at k before e n b form : ℕ) (v : Bool) (rows mid after : List ℕ) (r : Parsed) (st : Step) where
+  step-law : at < e → e ≤ length s → at + (n + form_entries form) ≤ e → b ≤ 8 * n → StepReads (drop at s) v (drop e s) → GoodS st → v ≡ wordy_s st
+      → drop at s ≡ ahead false (pieces_s st []) (drop e s) → form ≡ form_of st → n ≡ test_entries st → b ≡ test_bytes st → mid ≡ note_test st k rows
+      → StepOf (Done e v n b) k form before mid r after → StepParsed s at k before rows r after
+  step-law on within few small goes good ends reads f i j h (z, c) =
       let o = step-own st in
       rw z (
         record { on = on; within = within; entries_fit = few; bytes_fit = omega (arith, bytes-few form) },
@@ -343,65 +351,50 @@ module _ (s : List ℕ) (at k before form : ℕ) (p : Part) (rows mid after : Li
           reads = reads;
           counts = counted f i;
           weighs = rw (f, j, o.bytes);
-          noted = (rw z at c) ∙ filled f i ∙ sym (o.rows k before rows);
+          noted = c ∙ filled f i ∙ sym (o.rows k before rows);
         },
       ) where
-        counted : form ≡ form_of st → p.entries ≡ test_entries st → p.entries + form_entries form ≡ entries_s st
+        counted : form ≡ form_of st → n ≡ test_entries st → n + form_entries form ≡ entries_s st
         counted f i = rw (f, i, (step-own st).entries)
 
-        filled : form ≡ form_of st → p.entries ≡ test_entries st
-            → note_row mid (k + (p.entries + form_entries form)) form (k + p.entries) before ≡ step_row st k before (note_test st k rows)
+        filled : form ≡ form_of st → n ≡ test_entries st → note_row mid (k + n + form_entries form) form (k + n) before ≡ step_row st k before (note_test st k rows)
         filled f i =
-            let last : k + (p.entries + form_entries form) ≡ k + entries_s st = omega (arith, counted f i) in rw (last, h, f, i)
+            let last : k + n + form_entries form ≡ k + entries_s st = omega (arith, counted f i) in rw (last, h, f, i)
 
 module _ (s : List ℕ) (at k before : ℕ) (rows : List ℕ) where
-  pub plain-law : (e : ℕ) (v : Bool) (form : ℕ) (r : Part) (after : List ℕ) → StartAt s at (Ok (S.Plain e v form))
-      → r ≡ step_of (record { end = e; word = v; entries = 0; bytes = 0 }) form → after ≡ note_row rows (k + r.entries) form (k + 0) before
-      → StepParsed s at k before rows (Ok r) after
-  plain-law e v form r after (l, m, g, p) z c =
+  pub plain-law : (e : ℕ) (v : Bool) (form : ℕ) (r : Parsed) (after : List ℕ) → StartAt s at (Ok (S.Plain e v form)) → StepOf (Done e v 0 0) k form before rows r after
+      → StepParsed s at k before rows r after
+  plain-law e v form r after (l, m, g, p) c =
       let o = plain-own v p.named in
-      step-law s at k before form (record { end = e; word = v; entries = 0; bytes = 0 }) rows rows after r (plain_step v p.named)
-      (omega arith) m (omega (arith, entries-few form)) (omega arith) g
-      o.labels o.ends p.reads (p.is_form ∙ o.is_form) o.no_entries o.no_bytes (o.no-rows k rows) z c
+      step-law s at k before e 0 0 form v rows rows after r (plain_step v p.named) (omega arith) m (omega (arith, entries-few form)) (omega arith) g
+      o.labels o.ends p.reads (p.is_form ∙ o.is_form) o.no_entries o.no_bytes (o.no-rows k rows) c
 
-  module _ (h : head_of (drop at s) ≡ 63) where
-    asked : (K : List Expected) → run false (path ∷ K) (drop at s) ≡ run false (test ∷ after_step ∷ K) (drop (at + 1) s)
-    asked K = let q = (front s at 63 h (omega arith)).1 in rw q (step-test false K (drop (at + 1) s))
+  asked : head_of (drop at s) ≡ 63 → (K : List Expected) → run false (path ∷ K) (drop at s) ≡ run false (test ∷ after_step ∷ K) (drop (at + 1) s)
+  asked h K = let q = (front s at 63 h (omega arith)).1 in rw q (step-test false K (drop (at + 1) s))
 
-    -- A step ?TEST has one entry of its own.
-    one-own : (n e : ℕ) → at + 1 + n ≤ e → at + (n + form_entries 5) ≤ e
-    unfolding form_entries
-    one-own n e l = omega arith
+  -- A step ?TEST has one entry of its own.
+  one-own : (n e : ℕ) → at + 1 + n ≤ e → at + (n + form_entries 5) ≤ e
+  unfolding form_entries
+  one-own n e l = omega arith
 
-    pub passing-stops : (e : Stray) → TestParsed false s (at + 1) k rows (Err e) rows → StepParsed s at k before rows (Err e) rows
-    passing-stops e (m, g) = (m, λ K. asked K ∙ g _)
-
-    pub passing-law : (p r : Part) (mid after : List ℕ) → TestParsed false s (at + 1) k rows (Ok p) mid → r ≡ step_of p 5
-        → after ≡ note_row mid (k + r.entries) 5 (k + p.entries) before → StepParsed s at k before rows (Ok r) after
-    unfolding ahead pieces_t wordy_t GoodT sign_byte form_of test_entries test_bytes note_test
-    passing-law p r mid after (f, g, t) z c =
-        let q = (front s at 63 h (omega arith)).1 in
-        step-law s at k before 5 p rows mid after r (passing t.tree) (omega (arith, f.on)) f.within (one-own p.entries p.end f.entries_fit) f.bytes_fit
-        (λ K. asked K ∙ g _) t.labels t.ends (q ∙ ap (◌∷◌ 63) t.reads) refl t.counts t.weighs t.noted z c
+  pub passing-law : (p r : Parsed) (mid after : List ℕ) → head_of (drop at s) ≡ 63 → TestParsed false s (at + 1) k rows p mid → StepOf p k 5 before mid r after
+      → StepParsed s at k before rows r after
+  unfolding ahead pieces_t wordy_t GoodT sign_byte form_of test_entries test_bytes note_test
+  passing-law (Bad q) r mid after h (m, g) z = rw z (m, λ K. asked h K ∙ g _)
+  passing-law (Done e v m b) r mid after h (f, g, t) z =
+      let q = (front s at 63 h (omega arith)).1 in
+      step-law s at k before e m b 5 v rows mid after r (passing t.tree) (omega (arith, f.on)) f.within (one-own m e f.entries_fit) f.bytes_fit
+      (λ K. asked h K ∙ g _) t.labels t.ends (q ∙ ap (◌∷◌ 63) t.reads) refl t.counts t.weighs t.noted z
 
   module _ (f form : ℕ) (x : StartAt s at (Ok (S.While f form))) where
-    pub while-stops : (e : Stray) → TestParsed false s f k rows (Err e) rows → StepParsed s at k before rows (Err e) rows
-    while-stops e (m, g) = (m, λ K. x.2.goes K ∙ g _)
-
-    module _ (p : Part) (mid : List ℕ) (y : TestParsed false s f k rows (Ok p) mid) where
-      pub while-open : (e : Stray) → Shut (41 ∷ 42 ∷ []) s p (Err e) → StepParsed s at k before rows (Err e) rows
-      unfolding spelt
-      while-open e (Err q, u, j) = let i : e ≡ q = cc in rw i (u.0, λ K. x.2.goes K ∙ y.1 _ ∙ u.1 p.word _)
-      while-open e (Ok a, u, j) = absurd (cc)
-
-      pub while-law : (m r : Part) (after : List ℕ) → Shut (41 ∷ 42 ∷ []) s p (Ok m) → r ≡ step_of m form
-          → after ≡ note_row mid (k + r.entries) form (k + m.entries) before → StepParsed s at k before rows (Ok r) after
-      unfolding wordy_t GoodT spelt form_of test_entries test_bytes note_test
-      while-law m r after (Err q, u, j) z c = absurd (cc)
-      while-law m r after (Ok a, (k1, k2, k3), j) z c =
-          let w = x.2 in
-          let (l, g, t) = y in
-          let i : m ≡ record p { end = a; word = false } = cc in
-          step-law s at k before form (record p { end = a; word = false }) rows mid after r (while w.along t.tree) (omega (arith, x.0, l.on)) k2
-          (omega (arith, x.0, l.entries_fit, entries-few form)) l.bytes_fit (λ K. w.goes K ∙ g _ ∙ star-closed (drop p.end s) (drop a s) p.word _ k3)
-          t.labels refl (while-text w.along t.tree (drop a s) w.reads t.reads k3) w.is_form t.counts t.weighs t.noted (rw i at z) (rw i at c)
+    pub while-law : (p m r : Parsed) (mid after : List ℕ) → TestParsed false s f k rows p mid → Shut (41 ∷ 42 ∷ []) s p m → StepOf m k form before mid r after
+        → StepParsed s at k before rows r after
+    unfolding wordy_t GoodT spelt form_of test_entries test_bytes note_test
+    while-law (Bad q) m r mid after (l, g) i z = let e : r ≡ Bad q = rw i at z in rw e (l, λ K. x.2.goes K ∙ g _)
+    while-law (Done d u j c) m r mid after (l, g, t) (Err q, (a, y), i) z =
+        let e : r ≡ Bad q.place = rw i at z in rw e (a, λ K. x.2.goes K ∙ g _ ∙ y u _)
+    while-law (Done d u j c) m r mid after (l, g, t) (Ok a, (k1, k2, k3), i) z =
+        let w = x.2 in
+        step-law s at k before a j c form false rows mid after r (while w.along t.tree) (omega (arith, x.0, l.on)) k2
+        (omega (arith, x.0, l.entries_fit, entries-few form)) l.bytes_fit (λ K. w.goes K ∙ g _ ∙ star-closed (drop d s) (drop a s) u _ k3) t.labels refl
+        (while-text w.along t.tree (drop a s) w.reads t.reads k3) w.is_form t.counts t.weighs t.noted (rw i at z)

@@ -14,10 +14,11 @@ use Rattle.paths.proofs.Count.{weight_t, weight_p, weight_s, record_length}
 use Rattle.paths.proofs.Descent.{Reads, Stops}
 use Rattle.words.specs.declared.words.Stray.{Stray}
 use Rattle.words.proofs.Reading.{WordAt, StepReads}
-use Rattle.parse.specs.declared.tree.Part.{Part}
+use Rattle.parse.specs.declared.tree.Parsed.{Parsed}
+use Rattle.parse.specs.declared.tree.Parsed.TheVariants.{Done, Bad}
 use Rattle.parse.specs.declared.tree.Counts.{Counts}
 use Rattle.spell.specs.Forms.{form_entries, form_bytes}
-use Rattle.parse.specs.Rows.{no_rows, note_t, note_p, note_s}
+use Rattle.parse.specs.Rows.{no_rows, note_row, note_t, note_p, note_s}
 
 -- A cursor in a text, behind k entries: it is not past the end, and there is a byte before it for each of them.
 abbrev pub At : (s : List ℕ) (at k : ℕ) → Type 0
@@ -61,23 +62,20 @@ pub record Fits (s : List ℕ) (at end entries bytes : ℕ) : Type 0 where
   pub entries_fit : at + entries ≤ end
   pub bytes_fit : bytes ≤ 8 * entries
 
-abbrev pub TestParsed : (after : Bool) (s : List ℕ) (at k : ℕ) (rows : List ℕ) → Result Part Stray → List ℕ → Type 0
-TestParsed w s at k rows (Ok p) rows' =
-    Fits s at p.end p.entries p.bytes × Reads w test (drop at s) p.word (drop p.end s)
-    × TestIs w (drop at s) (drop p.end s) p.word p.entries p.bytes k rows rows'
-TestParsed w s at k rows (Err e) rows' = (e.place ≤ length s) × Stops w test (drop at s) (drop e.place s)
+abbrev pub TestParsed : (after : Bool) (s : List ℕ) (at k : ℕ) (rows : List ℕ) → Parsed → List ℕ → Type 0
+TestParsed w s at k rows (Done e v n b) rows' =
+    Fits s at e n b × Reads w test (drop at s) v (drop e s) × TestIs w (drop at s) (drop e s) v n b k rows rows'
+TestParsed w s at k rows (Bad p) rows' = (p ≤ length s) × Stops w test (drop at s) (drop p s)
 
-abbrev pub PathParsed : (s : List ℕ) (at k : ℕ) (rows : List ℕ) → Result Part Stray → List ℕ → Type 0
-PathParsed s at k rows (Ok p) rows' =
-    Fits s at p.end p.entries p.bytes × (p.word ≡ false) × Reads false path (drop at s) false (drop p.end s)
-    × PathIs (drop at s) (drop p.end s) p.entries p.bytes k rows rows'
-PathParsed s at k rows (Err e) rows' = (e.place ≤ length s) × Stops false path (drop at s) (drop e.place s)
+abbrev pub PathParsed : (s : List ℕ) (at k : ℕ) (rows : List ℕ) → Parsed → List ℕ → Type 0
+PathParsed s at k rows (Done e v n b) rows' =
+    Fits s at e n b × (v ≡ false) × Reads false path (drop at s) false (drop e s) × PathIs (drop at s) (drop e s) n b k rows rows'
+PathParsed s at k rows (Bad p) rows' = (p ≤ length s) × Stops false path (drop at s) (drop p s)
 
-abbrev pub StepParsed : (s : List ℕ) (at k before : ℕ) (rows : List ℕ) → Result Part Stray → List ℕ → Type 0
-StepParsed s at k before rows (Ok p) rows' =
-    Fits s at p.end p.entries p.bytes × StepReads (drop at s) p.word (drop p.end s)
-    × StepIs (drop at s) (drop p.end s) p.word p.entries p.bytes k before rows rows'
-StepParsed s at k before rows (Err e) rows' = (e.place ≤ length s) × Stops false path (drop at s) (drop e.place s)
+abbrev pub StepParsed : (s : List ℕ) (at k before : ℕ) (rows : List ℕ) → Parsed → List ℕ → Type 0
+StepParsed s at k before rows (Done e v n b) rows' =
+    Fits s at e n b × StepReads (drop at s) v (drop e s) × StepIs (drop at s) (drop e s) v n b k before rows rows'
+StepParsed s at k before rows (Bad p) rows' = (p ≤ length s) × Stops false path (drop at s) (drop p s)
 
 -- The steps of a path so far: its rest is read from here as the whole would be from its beginning. `whole` puts these steps in front of
 -- a path.
@@ -101,32 +99,38 @@ unfoldable pub leaf_bytes : ℕ → ℕ
 leaf_bytes zero = 4
 leaf_bytes (suc n) = 6
 
-abbrev pub Small : Part → Type 0
-Small p = (p.entries ≤ text_most) × (p.bytes ≤ 8 * text_most)
+abbrev pub Small : Parsed → Type 0
+Small (Done e v n b) = (n ≤ text_most) × (b ≤ 8 * text_most)
+Small (Bad p) = Unit {0}
 
--- `not`, and the part.
-abbrev pub excepted : Part → Part
-excepted p = record p { entries = p.entries + 1; bytes = p.bytes + 6 }
+abbrev pub Ends : List ℕ → Parsed → Type 0
+Ends s (Done e v n b) = e ≤ length s
+Ends s (Bad p) = Unit {0}
 
--- The parts in brackets, with ` or` between them.
-abbrev pub either_of : (left right : Part) → Part
-either_of l r = record r { entries = l.entries + r.entries + 1; bytes = l.bytes + r.bytes + 8 }
+abbrev pub closed_by : Result ℕ Stray → (entries bytes : ℕ) → Parsed
+closed_by (Ok e) n b = Done e false n b
+closed_by (Err p) n b = Bad p.place
 
--- The part as a test of a step of the form.
-abbrev pub step_of : Part → (form : ℕ) → Part
-step_of p form = record p { entries = p.entries + form_entries form; bytes = p.bytes + form_bytes form }
+abbrev pub Shut : (x s : List ℕ) → Parsed → Parsed → Type 0
+Shut x s (Done e v n b) r = (k : Result ℕ Stray) × WordAt x s e k × (r ≡ closed_by k n b)
+Shut x s (Bad p) r = r ≡ Bad p
 
--- `<`, and the part.
-abbrev pub closed : Part → Part
-closed p = record p { entries = p.entries + 1; bytes = p.bytes + 4 }
+abbrev pub Closing : Parsed → Parsed → Type 0
+Closing (Done e v n b) r = r ≡ Done e v (n + 1) (b + 4)
+Closing (Bad p) r = r ≡ Bad p
 
--- The part, and a word of signs behind it.
-abbrev pub shut_by : Part → Result ℕ Stray → Result Part Stray
-shut_by p (Ok e) = Ok (record p { end = e; word = false })
-shut_by p (Err q) = Err q
+abbrev pub Excepted : Parsed → (k : ℕ) (rows : List ℕ) → Parsed → List ℕ → Type 0
+Excepted (Done e v n b) k rows r rows' = (r ≡ Done e v (n + 1) (b + 6)) × (rows' ≡ note_row rows (k + n + 1) 3 (k + n) 0)
+Excepted (Bad p) k rows r rows' = r ≡ Bad p
 
-abbrev pub Shut : (x s : List ℕ) → Part → Result Part Stray → Type 0
-Shut x s p r = (k : Result ℕ Stray) × WordAt x s p.end k × (r ≡ shut_by p k)
+abbrev pub EitherOf : Parsed → (k n b : ℕ) (rows : List ℕ) → Parsed → List ℕ → Type 0
+EitherOf (Done e v m c) k n b rows r rows' = (r ≡ Done e v (m + n + 1) (c + b + 8)) × (rows' ≡ note_row rows (k + m + 1) 4 k (k + m))
+EitherOf (Bad p) k n b rows r rows' = r ≡ Bad p
+
+abbrev pub StepOf : Parsed → (k form before : ℕ) (rows : List ℕ) → Parsed → List ℕ → Type 0
+StepOf (Done e v n b) k form before rows r rows' =
+    (r ≡ Done e v (n + form_entries form) (b + form_bytes form)) × (rows' ≡ note_row rows (k + n + form_entries form) form (k + n) before)
+StepOf (Bad p) k form before rows r rows' = r ≡ Bad p
 
 -- ---- the text
 
@@ -134,11 +138,11 @@ Shut x s p r = (k : Result ℕ Stray) × WordAt x s p.end k × (r ≡ shut_by p 
 abbrev pub Read : (s rows : List ℕ) → Result Counts Stray → List ℕ → Type 0
 Read s rows (Ok n) rows' =
     (t : Test) × GoodT t × (s ≡ text_of t) × (n.entries ≡ length (table_of t)) × (n.bytes ≡ length (bytes_for t)) × (rows' ≡ note_t t 0 rows)
-Read s rows (Err e) rows' = (Text s → ⊥) × StopsAt s e.place
+Read s rows (Err p) rows' = (Text s → ⊥) × StopsAt s p.place
 
 -- The string has 1 to 1,024 bytes and is the text of a tree: so many entries, so many bytes of rule, and the rows of the tree. Or it gets
 -- 13 at the place, whatever the room, and no row is filled.
 abbrev pub TreeRead : (s : List ℕ) → Result Counts Stray → (rows : List ℕ) → Type 0
 TreeRead s (Ok n) rows =
     (t : Test) × TextOf s t × (n.entries ≡ length (table_of t)) × (n.bytes ≡ length (bytes_for t)) × (rows ≡ note_t t 0 no_rows)
-TreeRead s (Err e) rows = TextGets s (Refused 13 e.place) [] × (rows ≡ no_rows)
+TreeRead s (Err p) rows = TextGets s (Refused 13 p.place) [] × (rows ≡ no_rows)

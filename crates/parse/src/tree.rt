@@ -1,11 +1,12 @@
 // The parsers: test and path call each other, and the bytes left fall with every call. Each answers
 // where its part ends and what it counts, and notes the part in the lent rows; k is the number of
 // entries before the part. Counts have 16 bits, so that the deepest text needs little stack.
-ghost use Rattle.std.specs.Prelude.{◌≡◌, Bool, true, false, Ok, ◌+◌, ◌*◌, ◌-◌, ◌<◌, ◌≤◌, length, drop};
+ghost use Rattle.std.specs.Prelude.{◌≡◌, Bool, true, false, ◌+◌, ◌*◌, ◌-◌, ◌<◌, ◌≤◌, length, drop};
+ghost use Rattle.parse.specs.declared.tree.Parsed.TheVariants.{Done};
 ghost use Rattle.words.specs.Words.{head_of};
 ghost use Rattle.words.specs.Begins.{leaf_tree};
 ghost use Rattle.parse.specs.Rows.{note_row, note_t};
-ghost use Rattle.parse.specs.Promises.{leaf_bytes, At, Small, Shut, closed, excepted, either_of, step_of, TestParsed, PathParsed, StepParsed, Read, TreeRead};
+ghost use Rattle.parse.specs.Promises.{leaf_bytes, At, Small, Ends, Shut, Closing, Excepted, EitherOf, StepOf, TestParsed, PathParsed, StepParsed, Read, TreeRead};
 ghost use Rattle.paths.specs.Answer.{text_most};
 
 use spell::form::{own_bytes, own_entries};
@@ -20,14 +21,14 @@ const ROWS: u16 = 64;
 
 pub const ROW_PLACES: usize = 192;
 
-// A test, a path or a step that was read: its end, whether a word or number ends there, its entries,
-// its rule's bytes.
+// A test, a path or a step: its end, whether a word or number ends there, its entries, its rule's bytes; or
+// the place where it stops. (An enum of its own and no Result: tried as Result<Part, Stop>, 1,024 flat bytes
+// took 2.70 us and not 1.78, nested ones 8.7 and not 7.1, and the deepest text 213,720 bytes of stack and not
+// 164,520, since a struct is copied whole right after its fields were stored one by one.)
 #[derive(Clone, Copy)]
-pub(crate) struct Part {
-    pub end: u16,
-    pub word: bool,
-    pub entries: u16,
-    pub bytes: u16,
+pub(crate) enum Parsed {
+    Done(u16, bool, u16, u16),
+    Bad(u16),
 }
 
 // How many entries a text has, and how many bytes its rule.
@@ -54,145 +55,129 @@ fn note_row(rows: &mut [u16; ROW_PLACES], n: u16, form: u16, a: u16, b: u16)
 
 // ---- what is made of a part
 
-// `true` where the label is 0, else `label N`.
-fn leaf(end: usize, label: u16, k: u16, rows: &mut [u16; ROW_PLACES]) -> Part
-    requires { (end ≤ text_most) × (k ≤ text_most) }
-    ensures part { result ≡ record { end = end; word = true; entries = 1; bytes = leaf_bytes label } }
-    ensures noted { rows.new ≡ note_t (leaf_tree label) k rows.old }
+// `true` where the label is 0, else `label N`, which ends at e.
+fn leaf(e: usize, label: u16, k: u16, rows: &mut [u16; ROW_PLACES]) -> Parsed
+    requires { (e ≤ text_most) × (k ≤ text_most) }
+    ensures { (result ≡ Done e true 1 (leaf_bytes label)) × (rows.new ≡ note_t (leaf_tree label) k rows.old) }
 {
     if label == 0 {
         note_row(rows, k + 1, 1, 0, 0);
-        return Part {
-            end: end as u16,
-            word: true,
-            entries: 1,
-            bytes: 4,
-        };
+        return Parsed::Done(e as u16, true, 1, 4);
     }
     note_row(rows, k + 1, 2, label, 0);
-    Part {
-        end: end as u16,
-        word: true,
-        entries: 1,
-        bytes: 6,
-    }
+    Parsed::Done(e as u16, true, 1, 6)
 }
 
 // `not`, and the test p.
-fn except(p: Part, k: u16, rows: &mut [u16; ROW_PLACES]) -> Part
+fn except(p: Parsed, k: u16, rows: &mut [u16; ROW_PLACES]) -> Parsed
     requires { Small p × (k ≤ text_most) }
-    ensures part { result ≡ excepted p }
-    ensures noted { rows.new ≡ note_row rows.old (k + p.entries + 1) 3 (k + p.entries) 0 }
+    ensures { Excepted p k rows.old result rows.new }
 {
-    let n = k + p.entries;
-    note_row(rows, n + 1, 3, n, 0);
-    Part {
-        entries: p.entries + 1,
-        bytes: p.bytes + 6,
-        ..p
+    match p {
+        Parsed::Bad(q) => Parsed::Bad(q),
+        Parsed::Done(e, v, n, b) => {
+            note_row(rows, k + n + 1, 3, k + n, 0);
+            Parsed::Done(e, v, n + 1, b + 6)
+        }
     }
 }
 
-// `(`, a left, ` or`, and a right, behind k entries and those of the left.
-fn either_of(left: Part, right: Part, k: u16, rows: &mut [u16; ROW_PLACES]) -> Part
-    requires { Small left × Small right × (k ≤ text_most) }
-    ensures part { result ≡ either_of left right }
-    ensures noted { rows.new ≡ note_row rows.old (k + right.entries + 1) 4 k (k + right.entries) }
+// `(`, a left with n entries and b bytes that ends with entry k, ` or`, and the right p.
+fn either_of(p: Parsed, k: u16, n: u16, b: u16, rows: &mut [u16; ROW_PLACES]) -> Parsed
+    requires { Small p × (k ≤ text_most) × (n ≤ text_most) × (b ≤ 8192) }
+    ensures { EitherOf p k n b rows.old result rows.new }
 {
-    let m = k + right.entries;
-    note_row(rows, m + 1, 4, k, m);
-    Part {
-        entries: left.entries + right.entries + 1,
-        bytes: left.bytes + right.bytes + 8,
-        ..right
+    match p {
+        Parsed::Bad(q) => Parsed::Bad(q),
+        Parsed::Done(e, v, m, c) => {
+            note_row(rows, k + m + 1, 4, k, k + m);
+            Parsed::Done(e, v, m + n + 1, c + b + 8)
+        }
     }
 }
 
 // A step of a form, behind k entries. Its test is p, of no entries where it has none; the step before
 // it in its path is in row `before`.
-fn step_of(p: Part, k: u16, form: u16, before: u16, rows: &mut [u16; ROW_PLACES]) -> Part
+fn step_of(p: Parsed, k: u16, form: u16, before: u16, rows: &mut [u16; ROW_PLACES]) -> Parsed
     requires { Small p × (k ≤ text_most) }
-    ensures part { result ≡ step_of p form }
-    ensures noted { rows.new ≡ note_row rows.old (k + result.entries) form (k + p.entries) before }
+    ensures { StepOf p k form before rows.old result rows.new }
 {
-    let entries = p.entries + own_entries(form);
-    note_row(rows, k + entries, form, k + p.entries, before);
-    Part {
-        entries,
-        bytes: p.bytes + own_bytes(form),
-        ..p
+    match p {
+        Parsed::Bad(q) => Parsed::Bad(q),
+        Parsed::Done(e, v, n, b) => {
+            let own = own_entries(form);
+            note_row(rows, k + n + own, form, k + n, before);
+            Parsed::Done(e, v, n + own, b + own_bytes(form))
+        }
     }
 }
 
 // `<`, and the path p: its closing "true" is one entry more.
-fn closing(p: Part) -> Part
+fn closing(p: Parsed) -> Parsed
     requires { Small p }
-    ensures { result ≡ closed p }
+    ensures { Closing p result }
 {
-    Part {
-        entries: p.entries + 1,
-        bytes: p.bytes + 4,
-        ..p
+    match p {
+        Parsed::Bad(q) => Parsed::Bad(q),
+        Parsed::Done(e, v, n, b) => Parsed::Done(e, v, n + 1, b + 4),
     }
 }
 
 // The part, closed by a word of signs.
-fn shut(s: &[u8], p: Part, word: &[u8]) -> Result<Part, Stray>
-    requires { (p.end ≤ length s.now) × (length s.now ≤ text_most) }
+fn shut(s: &[u8], p: Parsed, word: &[u8]) -> Parsed
+    requires { Ends s.now p × (length s.now ≤ text_most) }
     ensures { Shut word.now s.now p result }
 {
-    let end = fixed_at(s, p.end as usize, word)?;
-    Ok(Part {
-        end: end as u16,
-        word: false,
-        ..p
-    })
+    match p {
+        Parsed::Bad(q) => Parsed::Bad(q),
+        Parsed::Done(e, v, n, b) => match fixed_at(s, e as usize, word) {
+            Err(q) => Parsed::Bad(q.place as u16),
+            Ok(f) => Parsed::Done(f as u16, false, n, b),
+        },
+    }
 }
 
 // ---- the parsers
 
 #[cycle(either_path_step_test)]
-fn test(
-    s: &[u8],
-    at: usize,
-    after: bool,
-    k: u16,
-    rows: &mut [u16; ROW_PLACES],
-) -> Result<Part, Stray>
+fn test(s: &[u8], at: usize, after: bool, k: u16, rows: &mut [u16; ROW_PLACES]) -> Parsed
     requires { At s.now at k }
     ensures { TestParsed after s.now at k rows.old result rows.new }
 {
-    match begins_at(s, at, after)? {
-        Begin::Leaf(end, label) => Ok(leaf(end, label, k, rows)),
-        Begin::Not(end) => {
-            let inner = test(s, end, true, k, rows)?;
-            Ok(except(inner, k, rows))
+    match begins_at(s, at, after) {
+        Err(p) => Parsed::Bad(p.place as u16),
+        Ok(Begin::Leaf(e, label)) => leaf(e, label, k, rows),
+        Ok(Begin::Not(f)) => {
+            let inner = test(s, f, true, k, rows);
+            except(inner, k, rows)
         }
-        Begin::Either => either(s, at, k, rows),
-        Begin::Path => {
-            let inner = path(s, at + 1, k + 1, rows)?;
-            Ok(closing(inner))
-        }
+        Ok(Begin::Either) => either(s, at, k, rows),
+        Ok(Begin::Path) => closing(path(s, at + 1, k + 1, rows)),
     }
 }
 
 // (TEST or TEST)
 #[cycle(either_path_step_test)]
-fn either(s: &[u8], at: usize, k: u16, rows: &mut [u16; ROW_PLACES]) -> Result<Part, Stray>
+fn either(s: &[u8], at: usize, k: u16, rows: &mut [u16; ROW_PLACES]) -> Parsed
     requires { At s.now at k × (head_of (drop at s.now) ≡ 40) }
     ensures { (w : Bool) → TestParsed w s.now at k rows.old result rows.new }
 {
-    let left = test(s, at + 1, false, k, rows)?;
-    let or = or_at(s, left.end as usize, left.word)?;
-    let k = k + left.entries;
-    let right = test(s, or, true, k, rows)?;
-    shut(s, either_of(left, right, k, rows), b")")
+    match test(s, at + 1, false, k, rows) {
+        Parsed::Bad(p) => Parsed::Bad(p),
+        Parsed::Done(e, v, n, b) => match or_at(s, e as usize, v) {
+            Err(p) => Parsed::Bad(p.place as u16),
+            Ok(f) => {
+                let right = test(s, f, true, k + n, rows);
+                shut(s, either_of(right, k + n, n, b, rows), b")")
+            }
+        },
+    }
 }
 
 // Steps with `/` between them, and `>`. A loop and not a call for each step, so that a long path needs
 // no more stack than a short one.
 #[cycle(either_path_step_test)]
-fn path(s: &[u8], at: usize, k: u16, rows: &mut [u16; ROW_PLACES]) -> Result<Part, Stray>
+fn path(s: &[u8], at: usize, k: u16, rows: &mut [u16; ROW_PLACES]) -> Parsed
     requires { At s.now at k }
     ensures { PathParsed s.now at k rows.old result rows.new }
 {
@@ -201,57 +186,44 @@ fn path(s: &[u8], at: usize, k: u16, rows: &mut [u16; ROW_PLACES]) -> Result<Par
     let mut bytes: u16 = 0;
     let mut before: u16 = 0;
     loop {
-        let part = step(s, from, k + entries, before, rows)?;
-        let end = part.end;
-        entries += part.entries;
-        bytes += part.bytes;
-        match byte_at(s, end as usize) {
-            b'>' => return Ok(Part {
-                end: end + 1,
-                word: false,
-                entries,
-                bytes,
-            }),
-            b'/' => {
-                from = end as usize + 1;
+        match step(s, from, k + entries, before, rows) {
+            Parsed::Bad(p) => {
+                return Parsed::Bad(p);
+            }
+            Parsed::Done(e, v, n, b) => {
+                entries += n;
+                bytes += b;
+                let next = byte_at(s, e as usize);
+                if next == b'>' {
+                    return Parsed::Done(e + 1, false, entries, bytes);
+                }
+                if next != b'/' {
+                    return Parsed::Bad(e);
+                }
+                from = e as usize + 1;
                 before = k + entries;
             }
-            _ => return Err(Stray {
-                place: end as usize,
-            }),
         }
     }
 }
 
 #[cycle(either_path_step_test)]
-fn step(
-    s: &[u8],
-    at: usize,
-    k: u16,
-    before: u16,
-    rows: &mut [u16; ROW_PLACES],
-) -> Result<Part, Stray>
+fn step(s: &[u8], at: usize, k: u16, before: u16, rows: &mut [u16; ROW_PLACES]) -> Parsed
     requires { At s.now at k }
     ensures { StepParsed s.now at k before rows.old result rows.new }
 {
-    match start_at(s, at)? {
-        Start::Plain(end, word, form) => {
-            let none = Part {
-                end: end as u16,
-                word,
-                entries: 0,
-                bytes: 0,
-            };
-            Ok(step_of(none, k, form, before, rows))
+    match start_at(s, at) {
+        Err(p) => Parsed::Bad(p.place as u16),
+        Ok(Start::Plain(e, v, form)) => {
+            step_of(Parsed::Done(e as u16, v, 0, 0), k, form, before, rows)
         }
-        Start::Test => {
-            let inner = test(s, at + 1, false, k, rows)?;
-            Ok(step_of(inner, k, 5, before, rows))
+        Ok(Start::Test) => {
+            let inner = test(s, at + 1, false, k, rows);
+            step_of(inner, k, 5, before, rows)
         }
-        Start::While(end, form) => {
-            let inner = test(s, end, false, k, rows)?;
-            let whole = shut(s, inner, b")*")?;
-            Ok(step_of(whole, k, form, before, rows))
+        Ok(Start::While(f, form)) => {
+            let inner = test(s, f, false, k, rows);
+            step_of(shut(s, inner, b")*"), k, form, before, rows)
         }
     }
 }
@@ -261,15 +233,18 @@ fn read_sized(s: &[u8], rows: &mut [u16; ROW_PLACES]) -> Result<Counts, Stray>
     requires { length s.now ≤ text_most }
     ensures { Read s.now rows.old result rows.new }
 {
-    let whole = test(s, 0, false, 0, rows)?;
-    let end = whole.end as usize;
-    if end == s.len() {
-        Ok(Counts {
-            entries: whole.entries as usize,
-            bytes: whole.bytes as usize,
-        })
-    } else {
-        Err(Stray { place: end })
+    match test(s, 0, false, 0, rows) {
+        Parsed::Bad(p) => Err(Stray { place: p as usize }),
+        Parsed::Done(e, v, n, b) => {
+            if e as usize == s.len() {
+                Ok(Counts {
+                    entries: n as usize,
+                    bytes: b as usize,
+                })
+            } else {
+                Err(Stray { place: e as usize })
+            }
+        }
     }
 }
 

@@ -1,98 +1,162 @@
+use Prim.Native.Nat.{◌+◌}
 use native.Mathlib.Omega.{arith}
 use mathlib.Core.Path.{sym, ◌∙◌}
-use Rattle.std.proofs.lemmas.Grind.{common_steps}
+use mathlib.Core.Bool.{true, false}
+use mathlib.Core.List.{[], ◌∷◌}
 use Rattle.words.proofs.WordLaws.{front}
 use Rattle.words.proofs.BeginSays.{or-says, begins-says, start-says}
-use Rattle.parse.proofs.PartLaws.{handed-on}
-use Rattle.parse.proofs.TreeLaws.{leaf-law, except-law, except-stops, begins-law, begins-stops, either-left, either-word, either-right, either-law, went-none, path-bad, path-ended, went-more, plain-law, passing-law, passing-stops, while-law, while-stops, while-open}
+use Rattle.parse.proofs.TreeLaws.{test-small, path-small, test-ends, either-ends, shut-small, leaf-law, except-law, begins-law, either_left, either-word, either-law, went-none, path-stops, path-bad, path-ended, went-more, plain-law, passing-law, while-law}
 use Rattle.parse.proofs.tree.+either_path_step_test.Goals as goal
 
+pub either-overflow_add-at : goal.either-overflow_add-at
+either-overflow_add-at t c = omega (arith, c.well_formed, (front c.args.s.now c.args.at 40 c.requires.1 (omega arith)).0)
+
 pub either-test-requires : goal.either-test-requires
-either-test-requires t c = let l = (front c.args.s.now c.args.at 40 c.requires.1 (omega arith)).0 in (omega (arith, c.requires, l), (omega (arith, l), c.requires.0.1, omega (arith, c.requires)))
+either-test-requires t c = let l = (front c.args.s.now c.args.at 40 c.requires.1 (omega arith)).0 in (omega (arith, c.requires, l), (omega (arith, l), c.requires.0.1, omega (arith, c.requires.0.2)))
 
-pub either-returns-in_err-left : goal.either-returns-in_err-left
-either-returns-in_err-left t c = λ w. rw (handed-on _ c.from_residual.ensures) (either-left w c.args.s.now c.args.at c.args.k c.args.rows.now c.requires.1 _ c.in_err-left.ensures)
+pub either-overflow_add-k : goal.either-overflow_add-k
+either-overflow_add-k t c = let x = (rw c.in-Done.is at c.test.ensures) in omega (arith, c.requires, x.0.entries_fit, x.0.within)
 
-pub either-returns-in_err-or : goal.either-returns-in_err-or
-either-returns-in_err-or t c = λ w. rw (handed-on _ c.from_residual-in_err-or.ensures) (either-word w c.args.s.now c.args.at c.args.k c.args.rows.now c.requires.1 _ _ c.in_ok-left.ensures _ (or-says _ c.args.s.now _ (c.in_ok-left.ensures).0.within c.or_at.ensures c.in_err-or.was))
+pub either-overflow_cast-result : goal.either-overflow_cast-result
+either-overflow_cast-result t c = let y = (or-says c.in-Done.v c.args.s.now c.in-Done.e (rw c.in-Done.is at (test-ends c.args.s.now (c.args.at + 1) _ _ false c.test.result _ c.test.ensures)) c.or_at.ensures c.in-Err.is) in omega (arith, c.requires, y.0)
 
-pub either-test-requires-2 : goal.either-test-requires-2
-either-test-requires-2 t c = let x = c.in_ok-left.ensures in let y = (or-says _ c.args.s.now _ (c.in_ok-left.ensures).0.within c.or_at.ensures c.in_ok-or.was) in (omega (arith, c.requires, x.0.on, y.0, y.1), (y.1, c.requires.0.1, omega (arith, c.requires, x.0.entries_fit, y.0)))
+pub either-test-right-requires : goal.either-test-right-requires
+either-test-right-requires t c = let x = (rw c.in-Done.is at c.test.ensures) in let y = (or-says c.in-Done.v c.args.s.now c.in-Done.e (rw c.in-Done.is at (test-ends c.args.s.now (c.args.at + 1) _ _ false c.test.result _ c.test.ensures)) c.or_at.ensures c.in-Ok.is) in (omega (arith, c.requires, x.0.on, y.0, y.1), (y.1, c.requires.0.1, omega (arith, c.requires.0.2, x.0.entries_fit, y.0)))
 
-pub either-returns-in_err-right : goal.either-returns-in_err-right
-either-returns-in_err-right t c = λ w. rw (handed-on _ c.from_residual-in_err-right.ensures) (either-right w c.args.s.now c.args.at c.args.k c.args.rows.now c.requires.1 _ _ c.in_ok-left.ensures _ (or-says _ c.args.s.now _ (c.in_ok-left.ensures).0.within c.or_at.ensures c.in_ok-or.was) _ c.in_err-right.ensures)
+pub either-overflow_add-k-in-Ok : goal.either-overflow_add-k-in-Ok
+either-overflow_add-k-in-Ok t c = let x = (rw c.in-Done.is at c.test.ensures) in omega (arith, c.requires, x.0.entries_fit, x.0.within)
 
-pub either-returns : goal.either-returns
-either-returns t c = λ w. either-law w c.args.s.now c.args.at c.args.k c.args.rows.now c.requires.1 _ _ c.in_ok-left.ensures _ (or-says _ c.args.s.now _ (c.in_ok-left.ensures).0.within c.or_at.ensures c.in_ok-or.was) _ _ _ _ _ c.in_ok-right.ensures c.either_of.ensures.part c.either_of.ensures.noted c.shut.ensures
+pub either-either_of-requires : goal.either-either_of-requires
+either-either_of-requires t c = let x = (rw c.in-Done.is at c.test.ensures) in (test-small c.args.s.now c.in-Ok.f _ _ true c.test-right.result _ c.requires.0.1 c.test-right.ensures, omega (arith, c.requires, x.0.entries_fit, x.0.within), omega (arith, c.requires, x.0.entries_fit, x.0.within), omega (arith, c.requires, x.0.entries_fit, x.0.within, x.0.bytes_fit))
 
-pub path-loop-part-init : goal.path-loop-part-init
-path-loop-part-init t c = went-none c.args.s.now c.args.at c.args.k c.args.rows.now c.requires.0
+pub either-shut-requires : goal.either-shut-requires
+either-shut-requires t c = (either-ends c.args.s.now c.in-Ok.f _ _ true c.test-right.result c.either_of.result _ _ _ _ _ c.test-right.ensures c.either_of.ensures, c.requires.0.1)
 
-pub path-returns-in-62 : goal.path-returns-in-62
-path-returns-in-62 t c = path-ended c.args.s.now c.args.at c.args.k c.args.rows.now c.loop-part.from c.loop-part.entries c.loop-part.bytes c.loop-part.before c.loop-part.rows c.loop-part.invariant _ _ c.in_ok-part.ensures (sym c.byte_at.ensures ∙ c.in-62.is)
+pub either-returns-in-Bad : goal.either-returns-in-Bad
+either-returns-in-Bad t c = λ w. either_left w c.args.s.now c.args.at c.args.k c.args.rows.now c.requires.1 c.in-Bad.p (rw c.in-Bad.is at c.test.ensures)
 
-pub path-loop-part-preserved : goal.path-loop-part-preserved
-path-loop-part-preserved t c = went-more c.args.s.now c.args.at c.args.k c.args.rows.now c.loop-part.from c.loop-part.entries c.loop-part.bytes c.loop-part.before c.loop-part.rows c.loop-part.invariant _ _ c.in_ok-part.ensures (sym c.byte_at.ensures ∙ c.in-47.is)
+pub either-returns-in-Err : goal.either-returns-in-Err
+either-returns-in-Err t c = λ w. either-word w c.args.s.now c.args.at c.args.k c.args.rows.now c.requires.1 c.in-Done.e c.in-Done.n c.in-Done.b c.in-Done.v _ (rw c.in-Done.is at c.test.ensures) c.in-Err.p (or-says c.in-Done.v c.args.s.now c.in-Done.e (rw c.in-Done.is at (test-ends c.args.s.now (c.args.at + 1) _ _ false c.test.result _ c.test.ensures)) c.or_at.ensures c.in-Err.is)
 
-pub path-returns-in_default : goal.path-returns-in_default
-path-returns-in_default t c = path-bad c.args.s.now c.args.at c.args.k c.args.rows.now c.loop-part.from c.loop-part.entries c.loop-part.bytes c.loop-part.before c.loop-part.rows c.loop-part.invariant _ _ c.in_ok-part.ensures (λ h. grind (arith, common_steps)) (λ h. grind (arith, common_steps))
+pub either-returns-in-Ok : goal.either-returns-in-Ok
+either-returns-in-Ok t c = λ w. either-law w c.args.s.now c.args.at c.args.k c.args.rows.now c.requires.1 c.in-Done.e c.in-Done.n c.in-Done.b c.in-Done.v _ (rw c.in-Done.is at c.test.ensures) c.in-Ok.f (or-says c.in-Done.v c.args.s.now c.in-Done.e (rw c.in-Done.is at (test-ends c.args.s.now (c.args.at + 1) _ _ false c.test.result _ c.test.ensures)) c.or_at.ensures c.in-Ok.is) c.test-right.result c.either_of.result c.shut.result _ _ c.test-right.ensures c.either_of.ensures c.shut.ensures
 
-pub step-returns-in_err-end : goal.step-returns-in_err-end
-step-returns-in_err-end t c = rw (handed-on _ c.from_residual.ensures) (start-says c.args.s.now _ c.requires.0 c.start_at.ensures c.in_err-end.was)
+pub path-loop-p-init : goal.path-loop-p-init
+path-loop-p-init t c = went-none c.args.s.now c.args.at c.args.k c.args.rows.now c.requires.0
 
-pub step-overflow_cast-none : goal.step-overflow_cast-none
-step-overflow_cast-none t c = let y = (rw c.in-Plain.is at (start-says c.args.s.now _ c.requires.0 c.start_at.ensures c.in_ok-end.was)) in omega (arith, c.requires, y.1)
+pub path-overflow_add-k : goal.path-overflow_add-k
+path-overflow_add-k t c = omega (arith, c.requires, c.loop-p.invariant.entries_fit, c.loop-p.invariant.within)
 
-pub step-test-requires : goal.step-test-requires
-step-test-requires t c = let l = (front c.args.s.now c.args.at 63 (rw c.in-Test.is at (start-says c.args.s.now _ c.requires.0 c.start_at.ensures c.in_ok-end.was)) (omega arith)).0 in (omega (arith, c.requires, l), (omega (arith, l), c.requires.1, omega (arith, c.requires)))
+pub path-step-requires : goal.path-step-requires
+path-step-requires t c = (omega (arith, c.requires, c.loop-p.invariant.on, c.loop-p.invariant.within), (c.loop-p.invariant.within, c.requires.1, omega (arith, c.requires.2, c.loop-p.invariant.entries_fit)))
 
-pub step-returns-in_err-inner-in-Test : goal.step-returns-in_err-inner-in-Test
-step-returns-in_err-inner-in-Test t c = rw (handed-on _ c.from_residual-in_err-inner-in-Test.ensures) (passing-stops c.args.s.now c.args.at c.args.k c.args.before c.args.rows.now (rw c.in-Test.is at (start-says c.args.s.now _ c.requires.0 c.start_at.ensures c.in_ok-end.was)) _ c.in_err-inner-in-Test.ensures)
+pub path-returns-in-Bad : goal.path-returns-in-Bad
+path-returns-in-Bad t c = path-stops c.args.s.now c.args.at c.args.k c.args.rows.now c.loop-p.from c.loop-p.entries c.loop-p.bytes c.loop-p.before c.loop-p.rows c.loop-p.invariant c.in-Bad.p (rw c.in-Bad.is at c.step.ensures)
 
-pub step-test-requires-in-While : goal.step-test-requires-in-While
-step-test-requires-in-While t c = let y = (rw c.in-While.is at (start-says c.args.s.now _ c.requires.0 c.start_at.ensures c.in_ok-end.was)) in (omega (arith, c.requires, y.0, y.1), (y.1, c.requires.1, omega (arith, c.requires, y.0)))
+pub path-overflow_add-entries : goal.path-overflow_add-entries
+path-overflow_add-entries t c = let y = (rw c.in-Done.is at c.step.ensures) in omega (arith, c.requires, c.loop-p.invariant.entries_fit, y.0.entries_fit, y.0.within)
 
-pub step-returns-in_err-inner-in-While : goal.step-returns-in_err-inner-in-While
-step-returns-in_err-inner-in-While t c = rw (handed-on _ c.from_residual-in_err-inner-in-While.ensures) (while-stops c.args.s.now c.args.at c.args.k c.args.before c.args.rows.now _ _ (rw c.in-While.is at (start-says c.args.s.now _ c.requires.0 c.start_at.ensures c.in_ok-end.was)) _ c.in_err-inner-in-While.ensures)
+pub path-overflow_add-bytes : goal.path-overflow_add-bytes
+path-overflow_add-bytes t c = let y = (rw c.in-Done.is at c.step.ensures) in omega (arith, c.requires, c.loop-p.invariant.entries_fit, c.loop-p.invariant.bytes_fit, y.0.entries_fit, y.0.bytes_fit, y.0.within)
 
-pub step-returns-in_err-whole-in-While : goal.step-returns-in_err-whole-in-While
-step-returns-in_err-whole-in-While t c = rw (handed-on _ c.from_residual-in_err-whole-in-While.ensures) (while-open c.args.s.now c.args.at c.args.k c.args.before c.args.rows.now _ _ (rw c.in-While.is at (start-says c.args.s.now _ c.requires.0 c.start_at.ensures c.in_ok-end.was)) _ _ c.in_ok-inner-in-While.ensures _ c.in_err-whole-in-While.ensures)
+pub path-overflow_add-result : goal.path-overflow_add-result
+path-overflow_add-result t c = let y = (rw c.in-Done.is at c.step.ensures) in omega (arith, c.requires, y.0.within)
 
-pub step-returns-in-Plain : goal.step-returns-in-Plain
-step-returns-in-Plain t c = plain-law c.args.s.now c.args.at c.args.k c.args.before c.args.rows.now _ _ _ _ _ (rw c.in-Plain.is at (start-says c.args.s.now _ c.requires.0 c.start_at.ensures c.in_ok-end.was)) c.step_of.ensures.part c.step_of.ensures.noted
+pub path-returns-then-next-eq62 : goal.path-returns-then-next-eq62
+path-returns-then-next-eq62 t c = path-ended c.args.s.now c.args.at c.args.k c.args.rows.now c.loop-p.from c.loop-p.entries c.loop-p.bytes c.loop-p.before c.loop-p.rows c.loop-p.invariant c.in-Done.e c.in-Done.n c.in-Done.b c.in-Done.v _ (rw c.in-Done.is at c.step.ensures) (sym c.byte_at-next.ensures ∙ c.if-next-eq62.true)
 
-pub step-returns-in_ok-inner-in-Test : goal.step-returns-in_ok-inner-in-Test
-step-returns-in_ok-inner-in-Test t c = passing-law c.args.s.now c.args.at c.args.k c.args.before c.args.rows.now (rw c.in-Test.is at (start-says c.args.s.now _ c.requires.0 c.start_at.ensures c.in_ok-end.was)) _ _ _ _ c.in_ok-inner-in-Test.ensures c.step_of-in-Test.ensures.part c.step_of-in-Test.ensures.noted
+pub path-returns-then-next-ne47 : goal.path-returns-then-next-ne47
+path-returns-then-next-ne47 t c = path-bad c.args.s.now c.args.at c.args.k c.args.rows.now c.loop-p.from c.loop-p.entries c.loop-p.bytes c.loop-p.before c.loop-p.rows c.loop-p.invariant c.in-Done.e c.in-Done.n c.in-Done.b c.in-Done.v _ (rw c.in-Done.is at c.step.ensures) (λ h. c.if-next-ne47.true (c.byte_at-next.ensures ∙ h)) (λ h. c.if-next-eq62.false (c.byte_at-next.ensures ∙ h))
 
-pub step-returns-in_ok-whole-in-While : goal.step-returns-in_ok-whole-in-While
-step-returns-in_ok-whole-in-While t c = while-law c.args.s.now c.args.at c.args.k c.args.before c.args.rows.now _ _ (rw c.in-While.is at (start-says c.args.s.now _ c.requires.0 c.start_at.ensures c.in_ok-end.was)) _ _ c.in_ok-inner-in-While.ensures _ _ _ c.in_ok-whole-in-While.ensures c.step_of-in-While.ensures.part c.step_of-in-While.ensures.noted
+pub path-overflow_add-from : goal.path-overflow_add-from
+path-overflow_add-from t c = omega (arith, c.well_formed, (front c.args.s.now c.in-Done.e 47 (sym c.byte_at-next.ensures ∙ c.if-next-ne47.false) (omega arith)).0)
 
-pub test-returns-in_err-end : goal.test-returns-in_err-end
-test-returns-in_err-end t c = rw (handed-on _ c.from_residual.ensures) (begins-says _ c.args.s.now _ c.requires.0 c.begins_at.ensures c.in_err-end.was)
+pub path-overflow_add-before : goal.path-overflow_add-before
+path-overflow_add-before t c = let y = (rw c.in-Done.is at c.step.ensures) in omega (arith, c.requires, c.loop-p.invariant.entries_fit, y.0.entries_fit, y.0.within)
+
+pub path-loop-p-smaller : goal.path-loop-p-smaller
+path-loop-p-smaller t c = let y = (rw c.in-Done.is at c.step.ensures) in let l = (front c.args.s.now c.in-Done.e 47 (sym c.byte_at-next.ensures ∙ c.if-next-ne47.false) (omega arith)).0 in omega (arith, y.0.on, l)
+
+pub path-loop-p-preserved : goal.path-loop-p-preserved
+path-loop-p-preserved t c = went-more c.args.s.now c.args.at c.args.k c.args.rows.now c.loop-p.from c.loop-p.entries c.loop-p.bytes c.loop-p.before c.loop-p.rows c.loop-p.invariant c.in-Done.e c.in-Done.n c.in-Done.b c.in-Done.v _ (rw c.in-Done.is at c.step.ensures) (sym c.byte_at-next.ensures ∙ c.if-next-ne47.false)
+
+pub step-overflow_cast-result : goal.step-overflow_cast-result
+step-overflow_cast-result t c = let y = (start-says c.args.s.now c.args.at c.requires.0 c.start_at.ensures c.in-Err.is) in omega (arith, c.requires, y.0)
+
+pub step-overflow_cast-e : goal.step-overflow_cast-e
+step-overflow_cast-e t c = let y = (rw c.in-Ok-Plain.field-0-is at (start-says c.args.s.now c.args.at c.requires.0 c.start_at.ensures c.in-Ok-Plain.is)) in omega (arith, c.requires, y.1)
+
+pub step-step_of-requires : goal.step-step_of-requires
+step-step_of-requires t c = ((omega arith, omega arith), omega (arith, c.requires))
+
+pub step-overflow_add-at : goal.step-overflow_add-at
+step-overflow_add-at t c = omega (arith, c.well_formed, (front c.args.s.now c.args.at 63 (rw c.in-Ok-Test.field-0-is at (start-says c.args.s.now c.args.at c.requires.0 c.start_at.ensures c.in-Ok-Test.is)) (omega arith)).0)
+
+pub step-test-inner-requires : goal.step-test-inner-requires
+step-test-inner-requires t c = let l = (front c.args.s.now c.args.at 63 (rw c.in-Ok-Test.field-0-is at (start-says c.args.s.now c.args.at c.requires.0 c.start_at.ensures c.in-Ok-Test.is)) (omega arith)).0 in (omega (arith, c.requires, l), (omega (arith, l), c.requires.1, omega (arith, c.requires.2)))
+
+pub step-step_of-requires-in-Ok-Test : goal.step-step_of-requires-in-Ok-Test
+step-step_of-requires-in-Ok-Test t c = (test-small c.args.s.now (c.args.at + 1) _ _ false c.test-inner.result _ c.requires.1 c.test-inner.ensures, omega (arith, c.requires))
+
+pub step-test-inner-requires-in-Ok-While : goal.step-test-inner-requires-in-Ok-While
+step-test-inner-requires-in-Ok-While t c = let x = (rw c.in-Ok-While.field-0-is at (start-says c.args.s.now c.args.at c.requires.0 c.start_at.ensures c.in-Ok-While.is)) in (omega (arith, c.requires, x.0, x.1), (x.1, c.requires.1, omega (arith, c.requires.2, x.0)))
+
+pub step-shut-requires : goal.step-shut-requires
+step-shut-requires t c = (test-ends c.args.s.now c.in-Ok-While.f _ _ false c.test-inner-in-Ok-While.result _ c.test-inner-in-Ok-While.ensures, c.requires.1)
+
+pub step-step_of-requires-in-Ok-While : goal.step-step_of-requires-in-Ok-While
+step-step_of-requires-in-Ok-While t c = (shut-small c.args.s.now c.in-Ok-While.f _ _ false (41 ∷ 42 ∷ []) c.test-inner-in-Ok-While.result c.shut.result _ c.requires.1 c.test-inner-in-Ok-While.ensures c.shut.ensures, omega (arith, c.requires))
+
+pub step-returns-in-Err : goal.step-returns-in-Err
+step-returns-in-Err t c = start-says c.args.s.now c.args.at c.requires.0 c.start_at.ensures c.in-Err.is
+
+pub step-returns-in-Ok-Plain : goal.step-returns-in-Ok-Plain
+step-returns-in-Ok-Plain t c = plain-law c.args.s.now c.args.at c.args.k c.args.before c.args.rows.now c.in-Ok-Plain.e c.in-Ok-Plain.v c.in-Ok-Plain.form c.step_of.result _ (rw c.in-Ok-Plain.field-0-is at (start-says c.args.s.now c.args.at c.requires.0 c.start_at.ensures c.in-Ok-Plain.is)) c.step_of.ensures
+
+pub step-returns-in-Ok-Test : goal.step-returns-in-Ok-Test
+step-returns-in-Ok-Test t c = passing-law c.args.s.now c.args.at c.args.k c.args.before c.args.rows.now c.test-inner.result c.step_of-in-Ok-Test.result _ _ (rw c.in-Ok-Test.field-0-is at (start-says c.args.s.now c.args.at c.requires.0 c.start_at.ensures c.in-Ok-Test.is)) c.test-inner.ensures c.step_of-in-Ok-Test.ensures
+
+pub step-returns-in-Ok-While : goal.step-returns-in-Ok-While
+step-returns-in-Ok-While t c = while-law c.args.s.now c.args.at c.args.k c.args.before c.args.rows.now c.in-Ok-While.f c.in-Ok-While.form (rw c.in-Ok-While.field-0-is at (start-says c.args.s.now c.args.at c.requires.0 c.start_at.ensures c.in-Ok-While.is)) c.test-inner-in-Ok-While.result c.shut.result c.step_of-in-Ok-While.result _ _ c.test-inner-in-Ok-While.ensures c.shut.ensures c.step_of-in-Ok-While.ensures
+
+pub test-overflow_cast-result : goal.test-overflow_cast-result
+test-overflow_cast-result t c = let y = (begins-says c.args.after c.args.s.now c.args.at c.requires.0 c.begins_at.ensures c.in-Err.is) in omega (arith, c.requires, y.0)
 
 pub test-leaf-requires : goal.test-leaf-requires
-test-leaf-requires t c = let y = (rw c.in-Leaf.is at (begins-says _ c.args.s.now _ c.requires.0 c.begins_at.ensures c.in_ok-end.was)) in (omega (arith, c.requires, y.within), omega (arith, c.requires))
+test-leaf-requires t c = let y = (rw c.in-Ok-Leaf.field-0-is at (begins-says c.args.after c.args.s.now c.args.at c.requires.0 c.begins_at.ensures c.in-Ok-Leaf.is)) in (omega (arith, c.requires, y.within), omega (arith, c.requires))
 
-pub test-test-requires : goal.test-test-requires
-test-test-requires t c = let y = (rw c.in-Not.is at (begins-says _ c.args.s.now _ c.requires.0 c.begins_at.ensures c.in_ok-end.was)) in (omega (arith, c.requires, y.0, y.1), (y.1, c.requires.1, omega (arith, c.requires, y.0)))
+pub test-test-inner-requires : goal.test-test-inner-requires
+test-test-inner-requires t c = let x = (rw c.in-Ok-Not.field-0-is at (begins-says c.args.after c.args.s.now c.args.at c.requires.0 c.begins_at.ensures c.in-Ok-Not.is)) in (omega (arith, c.requires, x.0, x.1), (x.1, c.requires.1, omega (arith, c.requires.2, x.0)))
 
-pub test-returns-in_err-inner-in-Not : goal.test-returns-in_err-inner-in-Not
-test-returns-in_err-inner-in-Not t c = rw (handed-on _ c.from_residual-in_err-inner-in-Not.ensures) (except-stops c.args.after c.args.s.now c.args.at c.args.k c.args.rows.now c.args.rows.now _ (rw c.in-Not.is at (begins-says _ c.args.s.now _ c.requires.0 c.begins_at.ensures c.in_ok-end.was)) _ c.in_err-inner-in-Not.ensures)
+pub test-except-requires : goal.test-except-requires
+test-except-requires t c = (test-small c.args.s.now c.in-Ok-Not.f _ _ true c.test-inner.result _ c.requires.1 c.test-inner.ensures, omega (arith, c.requires))
 
 pub test-either-requires : goal.test-either-requires
-test-either-requires t c = let h = (rw c.in-Either.is at (begins-says _ c.args.s.now _ c.requires.0 c.begins_at.ensures c.in_ok-end.was)) in let l = (front c.args.s.now c.args.at 40 h (omega arith)).0 in (omega (arith, c.requires, l), (c.requires, h))
+test-either-requires t c = let h = (rw c.in-Ok-Either.field-0-is at (begins-says c.args.after c.args.s.now c.args.at c.requires.0 c.begins_at.ensures c.in-Ok-Either.is)) in let l = (front c.args.s.now c.args.at 40 h (omega arith)).0 in (omega (arith, c.requires, l), (c.requires, h))
+
+pub test-overflow_add-at : goal.test-overflow_add-at
+test-overflow_add-at t c = omega (arith, c.well_formed, (front c.args.s.now c.args.at 60 (rw c.in-Ok-Path.field-0-is at (begins-says c.args.after c.args.s.now c.args.at c.requires.0 c.begins_at.ensures c.in-Ok-Path.is)) (omega arith)).0)
+
+pub test-overflow_add-k : goal.test-overflow_add-k
+test-overflow_add-k t c = omega (arith, c.requires)
 
 pub test-path-requires : goal.test-path-requires
-test-path-requires t c = let l = (front c.args.s.now c.args.at 60 (rw c.in-Path.is at (begins-says _ c.args.s.now _ c.requires.0 c.begins_at.ensures c.in_ok-end.was)) (omega arith)).0 in (omega (arith, c.requires, l), (omega (arith, l), c.requires.1, omega (arith, c.requires)))
+test-path-requires t c = let l = (front c.args.s.now c.args.at 60 (rw c.in-Ok-Path.field-0-is at (begins-says c.args.after c.args.s.now c.args.at c.requires.0 c.begins_at.ensures c.in-Ok-Path.is)) (omega arith)).0 in (omega (arith, c.requires, l), (omega (arith, l), c.requires.1, omega (arith, c.requires.2)))
 
-pub test-returns-in_err-inner-in-Path : goal.test-returns-in_err-inner-in-Path
-test-returns-in_err-inner-in-Path t c = rw (handed-on _ c.from_residual-in_err-inner-in-Path.ensures) (begins-stops c.args.after c.args.s.now c.args.at c.args.k c.args.rows.now c.args.rows.now (rw c.in-Path.is at (begins-says _ c.args.s.now _ c.requires.0 c.begins_at.ensures c.in_ok-end.was)) _ c.in_err-inner-in-Path.ensures)
+pub test-closing-requires : goal.test-closing-requires
+test-closing-requires t c = path-small c.args.s.now (c.args.at + 1) _ _ c.path.result _ c.requires.1 c.path.ensures
 
-pub test-returns-in-Leaf : goal.test-returns-in-Leaf
-test-returns-in-Leaf t c = leaf-law c.args.after c.args.s.now c.args.at c.args.k _ _ c.args.rows.now _ _ (rw c.in-Leaf.is at (begins-says _ c.args.s.now _ c.requires.0 c.begins_at.ensures c.in_ok-end.was)) c.leaf.ensures.part c.leaf.ensures.noted
+pub test-returns-in-Err : goal.test-returns-in-Err
+test-returns-in-Err t c = begins-says c.args.after c.args.s.now c.args.at c.requires.0 c.begins_at.ensures c.in-Err.is
 
-pub test-returns-in_ok-inner-in-Not : goal.test-returns-in_ok-inner-in-Not
-test-returns-in_ok-inner-in-Not t c = except-law c.args.after c.args.s.now c.args.at c.args.k c.args.rows.now _ _ (rw c.in-Not.is at (begins-says _ c.args.s.now _ c.requires.0 c.begins_at.ensures c.in_ok-end.was)) _ _ _ c.in_ok-inner-in-Not.ensures c.except.ensures.part c.except.ensures.noted
+pub test-returns-in-Ok-Leaf : goal.test-returns-in-Ok-Leaf
+test-returns-in-Ok-Leaf t c = leaf-law c.args.after c.args.s.now c.args.at c.args.k c.in-Ok-Leaf.e c.in-Ok-Leaf.label c.args.rows.now _ c.leaf.result (rw c.in-Ok-Leaf.field-0-is at (begins-says c.args.after c.args.s.now c.args.at c.requires.0 c.begins_at.ensures c.in-Ok-Leaf.is)) c.leaf.ensures.0 c.leaf.ensures.1
 
-pub test-returns-in_ok-inner-in-Path : goal.test-returns-in_ok-inner-in-Path
-test-returns-in_ok-inner-in-Path t c = begins-law c.args.after c.args.s.now c.args.at c.args.k c.args.rows.now _ (rw c.in-Path.is at (begins-says _ c.args.s.now _ c.requires.0 c.begins_at.ensures c.in_ok-end.was)) _ _ c.in_ok-inner-in-Path.ensures c.closing.ensures
+pub test-returns-in-Ok-Not : goal.test-returns-in-Ok-Not
+test-returns-in-Ok-Not t c = except-law c.args.after c.args.s.now c.args.at c.args.k c.args.rows.now _ c.except.result c.in-Ok-Not.f c.test-inner.result _ (rw c.in-Ok-Not.field-0-is at (begins-says c.args.after c.args.s.now c.args.at c.requires.0 c.begins_at.ensures c.in-Ok-Not.is)) c.test-inner.ensures c.except.ensures
+
+pub test-returns-in-Ok-Either : goal.test-returns-in-Ok-Either
+test-returns-in-Ok-Either t c = c.either.ensures c.args.after
+
+pub test-returns-in-Ok-Path : goal.test-returns-in-Ok-Path
+test-returns-in-Ok-Path t c = begins-law c.args.after c.args.s.now c.args.at c.args.k c.args.rows.now _ c.closing.result c.path.result (rw c.in-Ok-Path.field-0-is at (begins-says c.args.after c.args.s.now c.args.at c.requires.0 c.begins_at.ensures c.in-Ok-Path.is)) c.path.ensures c.closing.ensures

@@ -17,8 +17,8 @@ decreases-step l = 2 * (length l.s.now - l.at)
 abbrev pub decreases-test : goal.decreases-test
 decreases-test l = 2 * (length l.s.now - l.at) + 1
 
-abbrev pub invariant-path-loop-part : goal.invariant-path-loop-part
-invariant-path-loop-part l = Went l.s l.at l.k l.initial.rows l.from l.entries l.bytes l.before l.rows
+abbrev pub invariant-path-loop-p : goal.invariant-path-loop-p
+invariant-path-loop-p l = Went l.s l.at l.k l.initial.rows l.from l.entries l.bytes l.before l.rows
 
-abbrev pub decreases-path-loop-part : goal.decreases-path-loop-part
-decreases-path-loop-part l = length l.s - l.from
+abbrev pub decreases-path-loop-p : goal.decreases-path-loop-p
+decreases-path-loop-p l = length l.s - l.from

@@ -1,14 +1,20 @@
-use native.Mathlib.Omega.{arith}
 use mathlib.Core.Path.{refl}
+use native.Mathlib.Omega.{arith}
 use Rattle.words.proofs.WordLaws.{word-says}
-use Rattle.parse.proofs.PartLaws.{handed-on}
+use Rattle.parse.proofs.PartLaws.{shut-bad, shut-missing, shut-there}
 use Rattle.parse.proofs.tree.shut.Goals as goal
 
-pub returns-in_err-end : goal.returns-in_err-end
-returns-in_err-end c = (c.fixed_at.result, word-says _ _ _ c.requires.0 c.fixed_at.ensures refl, rw c.in_err-end.was (handed-on _ c.from_residual.ensures))
-
 pub overflow_cast-result : goal.overflow_cast-result
-overflow_cast-result c = omega (arith, c.requires, (word-says _ _ _ c.requires.0 c.fixed_at.ensures c.in_ok-end.was).1)
+overflow_cast-result c = let y = (word-says c.args.word.now c.args.s.now c.in-Done.e (rw c.in-Done.is at c.requires.0) c.fixed_at.ensures c.in-Err.is) in omega (arith, c.requires.1, y.0)
 
-pub returns : goal.returns
-returns c = (c.fixed_at.result, word-says _ _ _ c.requires.0 c.fixed_at.ensures refl, rw c.in_ok-end.was)
+pub overflow_cast-result-in-Ok : goal.overflow_cast-result-in-Ok
+overflow_cast-result-in-Ok c = let y = (word-says c.args.word.now c.args.s.now c.in-Done.e (rw c.in-Done.is at c.requires.0) c.fixed_at.ensures c.in-Ok.is) in omega (arith, c.requires.1, y.1)
+
+pub returns-in-Bad : goal.returns-in-Bad
+returns-in-Bad c = shut-bad _ _ c.in-Bad.is _ _
+
+pub returns-in-Err : goal.returns-in-Err
+returns-in-Err c = shut-missing _ _ _ _ _ c.in-Done.is _ _ _ _ c.in-Err.is (word-says c.args.word.now c.args.s.now c.in-Done.e (rw c.in-Done.is at c.requires.0) c.fixed_at.ensures refl)
+
+pub returns-in-Ok : goal.returns-in-Ok
+returns-in-Ok c = shut-there _ _ _ _ _ c.in-Done.is _ _ _ _ c.in-Ok.is (word-says c.args.word.now c.args.s.now c.in-Done.e (rw c.in-Done.is at c.requires.0) c.fixed_at.ensures refl)

@@ -5,24 +5,25 @@ use Rattle.words.proofs.WordLaws.{front}
 use Rattle.words.proofs.begins.begins_at.Goals as goal
 
 pub overflow_add-at : goal.overflow_add-at
-overflow_add-at c = omega (arith, c.well_formed, (front c.args.s.now c.args.at 32 (sym c.byte_at.ensures ∙ c.in-32.is) (omega arith)).0)
+overflow_add-at c =
+    omega (arith, c.well_formed, (front c.args.s.now c.args.at 32 (sym c.byte_at-b.ensures ∙ c.if-b-eq32.true) (omega arith)).0)
 
-pub returns-in_default : goal.returns-in_default
+pub returns-then-b-eq40 : goal.returns-then-b-eq40
 unfolding begin_at
-returns-in_default c = grind (arith, common_steps)
+returns-then-b-eq40 c = grind (arith, common_steps)
 
-pub returns-in-32 : goal.returns-in-32
+pub returns-then-b-eq60 : goal.returns-then-b-eq60
 unfolding begin_at
-returns-in-32 c = grind (arith, common_steps)
+returns-then-b-eq60 c = grind (arith, common_steps)
 
-pub returns-in_default-2 : goal.returns-in_default-2
+pub returns-then-unspaced : goal.returns-then-unspaced
 unfolding begin_at
-returns-in_default-2 c = grind (arith, common_steps)
+returns-then-unspaced c = grind (arith, common_steps)
 
-pub returns-in-60 : goal.returns-in-60
+pub returns-then-b-eq32 : goal.returns-then-b-eq32
 unfolding begin_at
-returns-in-60 c = grind (arith, common_steps)
+returns-then-b-eq32 c = grind (arith, common_steps)
 
-pub returns-in-40 : goal.returns-in-40
+pub returns : goal.returns
 unfolding begin_at
-returns-in-40 c = grind (arith, common_steps)
+returns c = grind (arith, common_steps)
