@@ -10,6 +10,7 @@ ghost use Rattle.marking.specs.Pass.{Passed, Stored, Room, Columns, bits_of};
 ghost use Rattle.marking.specs.Steps.{along_mark};
 
 use crate::ahead::{gather_pass, turn_pass};
+use crate::asked::{Asked, Column};
 use crate::back::back_pass;
 use crate::local::local_pass;
 use entry::entry::Entry;
@@ -20,19 +21,17 @@ use terms::kind::{Axis, Shape, leads_back, row_of};
 
 // Entry i at every element along an axis, by its column: at some neighbour, or at the end of a way. What
 // is back goes from the first element on; ahead, ways go from the last on.
-fn along_pass(until: bool, x: Axis, a: usize, b: usize, i: usize, f: &[u16], marks: &mut [u64])
-    requires earlier { (a < i) × (b < i) }
-    requires room { Room (length f.now) i marks.old }
-    requires not_past { (s : ℕ) → s < length f.now → get_or f.now s 0 ≤ s }
-    ensures { Passed (length f.now) i (along_mark «until» (direction x) (length f.now) (leads f.now) (bits_of marks.old a) (bits_of marks.old b)) marks.old marks.new }
+fn along_pass(until: bool, x: Axis, asked: Asked, column: Column, marks: &mut [u64])
+    requires { Room (length column.numbers.now) asked.i marks.old }
+    ensures { let f = column.entry.numbers.now in Passed (length f) asked.i (along_mark «until» (direction x) (length f) (leads f) (bits_of marks.old asked.a) (bits_of marks.old asked.b)) marks.old marks.new }
 {
     if leads_back(x) {
-        back_pass(until, a, b, i, f, marks)
+        back_pass(until, asked, column, marks)
     } else {
         if until {
-            turn_pass(AskedAhead::Until, a, b, i, f, marks)
+            turn_pass(AskedAhead::Until, asked, column, marks)
         } else {
-            gather_pass(a, i, f, marks)
+            gather_pass(asked, column, marks)
         }
     }
 }
@@ -56,9 +55,18 @@ fn mark_entry<'a>(
     match shape {
         Shape::Nothing => {}
         Shape::Here(asked) => local_pass(asked, a, b, i, labels, marks),
-        Shape::SomeAlong(x) => along_pass(false, x, a, b, i, column(x, ups, lefts), marks),
-        Shape::UntilAlong(x) => along_pass(true, x, a, b, i, column(x, ups, lefts), marks),
-        Shape::EveryChild => turn_pass(AskedAhead::Every, a, b, i, ups, marks),
+        Shape::SomeAlong(x) => {
+            let numbers = column(x, ups, lefts);
+            along_pass(false, x, Asked { a, b, i }, Column { numbers }, marks)
+        }
+        Shape::UntilAlong(x) => {
+            let numbers = column(x, ups, lefts);
+            along_pass(true, x, Asked { a, b, i }, Column { numbers }, marks)
+        }
+        Shape::EveryChild => {
+            let up = Column { numbers: ups };
+            turn_pass(AskedAhead::Every, Asked { a, b, i }, up, marks)
+        }
     }
 }
 
