@@ -9,7 +9,8 @@ use crate::asked::{Asked, Column};
 use numbers::bytes::wide;
 use steps::back::back_word;
 
-// Entry i at every element, from the first on: each has its mark before one that leads to it.
+// Entry i at every element, from the first on: each has its mark before one that leads to it. `until` is
+// a word of the meaning and no closure; the compiler makes a loop of each of its values.
 pub(crate) fn back_pass(until: bool, asked: Asked, column: Column, marks: &mut [u64])
     requires { Room (length column.numbers.now) asked.i marks.old }
     ensures { let f = column.entry.numbers.now in Passed (length f) asked.i (along_mark until backward (length f) (leads f) (bits_of marks.old asked.a) (bits_of marks.old asked.b)) marks.old marks.new }

@@ -1,6 +1,6 @@
 // Kinds 1, 3, 4 and 5: what they make of two bits of an element's word is a gate, an and, with the first
 // bit, the second and the outcome each inverted or not. So an entry's loop has no branch, and takes
-// several elements at once.
+// several elements at once. A gate is data and no closure: one loop and one law serve all four.
 ghost use Rattle.std.specs.Prelude.{◌≡◌};
 ghost use Rattle.steps.specs.Steps.{gate_mark, always_gate, not_gate, or_gate, and_gate};
 
