@@ -1,6 +1,6 @@
 -- The promise of this crate's public function determines the answer: any two results that meet it are equal. Assumes nothing.
-use Prim.Native.Nat.{ℕ, ◌+◌}
-use mathlib.Core.Path.{◌≡◌, refl, sym, ap, ◌∙◌}
+use Prim.Native.Nat.{ℕ}
+use mathlib.Core.Path.{◌≡◌, sym, ap, ◌∙◌}
 use mathlib.Core.List.{List}
 use Rattle.std.specs.Prelude.{Result, Ok, Err}
 use Rattle.numbers.proofs.Only.{only}

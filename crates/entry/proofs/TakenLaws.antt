@@ -6,9 +6,8 @@ use borrow.Author.Tests.{le-leb, lt-leb, leb-false}
 use mathlib.Core.Path.{◌≡◌, refl, sym, ap, ◌∙◌}
 use mathlib.Core.Bool.{Bool, true, false, cond}
 use mathlib.Core.List.{List}
-use lib.Dec.{leb, eqb}
+use lib.Dec.{leb}
 use lib.ListN.{length}
-use Rattle.numbers.specs.Bytes.{number_at}
 use Rattle.terms.specs.Frame.{frame_of, kind_at, broken, next_of, Frame, Whole, Cut, Garbled}
 use Rattle.terms.specs.Kinds.{row_of}
 use Rattle.entry.specs.Entry.{entry_of, entry_at, misdirected, rule_fault}

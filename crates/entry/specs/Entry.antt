@@ -2,9 +2,9 @@
 -- and their order.
 -- Shuts out: 3 before 2; a 65th entry taken; an entry that names itself or a later one.
 -- Laws: proofs/TakenLaws.antt, and the crate grammar. Assumes nothing.
-use Rattle.std.specs.Prelude.{ℕ, ◌+◌, Bool, false, cond, ◌||◌, ◌&&◌, List, leb, eqb}
+use Rattle.std.specs.Prelude.{ℕ, ◌+◌, Bool, false, cond, ◌||◌, ◌&&◌, List, leb}
 use Rattle.numbers.specs.Bytes.{number_at}
-use Rattle.terms.specs.Frame.{kind_at, broken_at, next_of}
+use Rattle.terms.specs.Frame.{kind_at, broken_at}
 use Rattle.terms.specs.Kinds.{row_of, rule_length}
 use Rattle.terms.specs.declared.kind.Numbers.{Numbers}
 use Rattle.terms.specs.declared.kind.Numbers.TheVariants.{Nothing, Label, Entries}

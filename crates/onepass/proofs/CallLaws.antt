@@ -2,13 +2,17 @@
 -- Assumes nothing.
 use Prim.Native.Nat.{ℕ, pred, ◌-◌, ◌≤◌}
 use native.Mathlib.Omega.{arith}
-use borrow.Author.Tests.{eqb-true}
+use borrow.Author.Tests.{eqb-true, ne_eqb}
 use mathlib.Core.Path.{◌≡◌, refl, sym, ap, ◌∙◌}
 use mathlib.Core.Bool.{Bool, true, false, cond, ◌&&◌}
 use mathlib.Core.List.{List}
 use lib.Dec.{eqb}
 use lib.ListN.{length}
-use Rattle.terms.specs.Answer.{Answer, Accepted, Refused, place_of, count_of, by_answer, numbered}
+use Rattle.std.specs.Prelude.{Result, Ok, Err}
+use Rattle.terms.specs.Answer.{Answer, Accepted, Refused, place_of, count_of, by_answer, numbered, answered, number_of_fault}
+use Rattle.terms.specs.declared.refusal.Fault.{Fault}
+use Rattle.terms.specs.declared.refusal.Refusal.{Refusal}
+use Rattle.terms.proofs.FaultLaws.{fault-number-some}
 use Rattle.entry.specs.declared.entry.Entry.{Entry}
 use Rattle.terms.proofs.AnswerLaws.{Sound, order-sound, numbered-sound, numbered-by}
 use Rattle.grammar.proofs.WhenRule.{rule-answer-sound}
@@ -57,17 +61,41 @@ pub step-ahead : (s : List ℕ) (t : Tag) (verdict : Bool) (taken : List ℕ) (a
 unfolding step_number step_answer step_after numbered
 step-ahead s t verdict taken ahead e = record { answer = rw e; state_is = rw e }
 
--- None does: an opening has the state's number, and where that is 0 the last entry's bit of the word.
-pub step-opened : (s : List ℕ) (label w n k : ℕ) (on : Bool) (after : List ℕ) (ahead : Bool) → ahead ≡ false → StateOpened s label w k after
+-- The test of it tells, by the number of what it gives.
+pub ahead-faulty : (ahead : Bool) (f : Fault) → number_of_fault f ≡ cond ahead 10 0 → (ahead ≡ true) × (number_of_fault f ≡ 10)
+ahead-faulty true f e = (refl, e)
+ahead-faulty false f e = absurd (fault-number-some f e)
+
+pub ahead-none : (ahead : Bool) → ◌≡◌ {A = ℕ} 0 (cond ahead 10 0) → ahead ≡ false
+ahead-none true e = absurd (omega arith)
+ahead-none false e = refl
+
+-- So it is told by the fault.
+pub step-looks-ahead : (s : List ℕ) (t : Tag) (verdict : Bool) (taken : List ℕ) (ahead : Bool) (f : Fault) → number_of_fault f ≡ cond ahead 10 0
+    → Stepped ahead s t verdict taken (reply (number_of_fault f) 0 0) s
+step-looks-ahead s t verdict taken ahead f e =
+    let (is, ten) = ahead-faulty ahead f e in rw ten (step-ahead s t verdict taken ahead is)
+
+-- None does: an opening has the state's fault, or the last entry's bit of the word.
+opened-step : (s : List ℕ) (label w n k : ℕ) (on : Bool) (after : List ℕ) (ahead : Bool) → ahead ≡ false → StateOpened s label w k after
     → on ≡ bit_at w (n - 1) → Stepped ahead s (opens label) (bit_at w (pred n)) (opening w s) (reply k 0 (bit (eqb k 0 && on))) after
 unfolding step_number
-step-opened s label w n k on after ahead e o b =
+opened-step s label w n k on after ahead e o b =
     record {
       answer = rw (e, o.number_is, b, pred-sub n) (sym (step-answer false s (opens label) (bit_at w (pred n))));
       state_is = rw e (o.state_is ∙ sym (step-after false s (opens label) (opening w s)));
     }
 
--- A closing has the state's number.
+pub step-opened : (s : List ℕ) (label w n : ℕ) (on : Bool) (after : List ℕ) (ahead : Bool) → ahead ≡ false → StateOpened s label w 0 after
+    → on ≡ bit_at w (n - 1) → Stepped ahead s (opens label) (bit_at w (pred n)) (opening w s) (reply 0 0 (bit on)) after
+step-opened s label w n on after ahead e o b = opened-step s label w n 0 on after ahead e o b
+
+pub step-not-opened : (s : List ℕ) (label w n : ℕ) (f : Fault) (after : List ℕ) (ahead : Bool) → ahead ≡ false
+    → StateOpened s label w (number_of_fault f) after → Stepped ahead s (opens label) (bit_at w (pred n)) (opening w s) (reply (number_of_fault f) 0 0) after
+step-not-opened s label w n f after ahead e o =
+    rw (ne_eqb (number_of_fault f) 0 (fault-number-some f)) at (opened-step s label w n (number_of_fault f) (bit_at w (n - 1)) after ahead e o refl)
+
+-- A closing has the state's fault or none.
 pub step-closed : (s : List ℕ) (k : ℕ) (after : List ℕ) (ahead : Bool) → ahead ≡ false → StateClosed s k after
     → Stepped ahead s closes false (closing s) (reply k 0 0) after
 unfolding step_number
@@ -122,13 +150,13 @@ step_same ahead s t v v' x x' h = go (eqb k 0) refl where
 module _ (rule s : List ℕ) (n : ℕ) where
   -- With an accepted rule of n entries an opening is answered by the walk's word, and that is the meaning's where it is taken.
   pub opened-call : (label : ℕ) (words : Words) (walk : Walk) (r : StepReply) (after : List ℕ) → WordsRead s words
-      → Walked rule label words.parent words.sibling walk → walk.answer ≡ Accepted n
+      → Walked rule label words.parent words.sibling walk → walk.answer ≡ Ok n
       → Stepped walk.ahead s (opens label) (bit_at walk.word (pred n)) (opening walk.word s) r after
       → (r ≡ answer_of rule s (opens label)) × (after ≡ state_after rule s (opens label))
   unfolding call_outcome answer_of state_after step_answer step_after bytes_after opened_verdict
   opened-call label words walk r after read w a o =
       let es = entries_of rule in
-      let e : rule_answer rule ≡ Accepted n = sym w.answer_is ∙ a in
+      let e : rule_answer rule ≡ Accepted n = sym w.answer_is ∙ ap answered a in
       let ahead = walked-ahead rule n label _ _ walk w a in
       let count : n ≡ length es = sym (entries-count rule ∙ ap count_of e) in
       let q = step_same walk.ahead s (opens label) (bit_at walk.word (pred n)) (verdict_of es (state_of s) (opens label)) (opening walk.word s) (bytes_after es s (opens label))
@@ -136,11 +164,11 @@ module _ (rule s : List ℕ) (n : ℕ) where
       (rw (e, ← ahead) (o.answer ∙ q.0), rw (e, ← ahead) (o.state_is ∙ q.1))
 
   -- And a closing by what the walk without a step says.
-  pub closed-call : (asked : Ahead) (r : StepReply) (after : List ℕ) → Asked rule asked → asked.answer ≡ Accepted n
+  pub closed-call : (asked : Ahead) (r : StepReply) (after : List ℕ) → Asked rule asked → asked.answer ≡ Ok n
       → Stepped asked.ahead s closes false (closing s) r after → (r ≡ answer_of rule s closes) × (after ≡ state_after rule s closes)
   unfolding call_outcome answer_of state_after step_answer step_after bytes_after
   closed-call asked r after w a o =
-      let e : rule_answer rule ≡ Accepted n = sym w.answer_is ∙ a in
+      let e : rule_answer rule ≡ Accepted n = sym w.answer_is ∙ ap answered a in
       let ahead = asked-ahead rule n asked w a in
       (rw (e, ← ahead) o.answer, rw (e, ← ahead) o.state_is)
 
@@ -150,12 +178,12 @@ unfolding call_outcome answer_of state_after
 refused-call rule s t k p e = (rw e, rw e)
 
 -- An accepted rule has an entry.
-pub accepted-some : (rule : List ℕ) (r : Answer) (n : ℕ) → r ≡ rule_answer rule → r ≡ Accepted n → 1 ≤ n
-accepted-some rule r n e f = entries-some rule n (sym e ∙ f)
+pub accepted-some : (rule : List ℕ) (r : Result ℕ Refusal) (n : ℕ) → answered r ≡ rule_answer rule → r ≡ Ok n → 1 ≤ n
+accepted-some rule r n e f = entries-some rule n (sym e ∙ ap answered f)
 
 -- The place of a refused rule fits 32 bits.
-pub refused-place : (rule : List ℕ) (r : Answer) (k p : ℕ) → r ≡ rule_answer rule → r ≡ Refused k p → p ≤ rule_most
-refused-place rule r k p e f = omega (arith, (rule-small rule).place_in, ap place_of (sym e ∙ f))
+pub refused-place : (rule : List ℕ) (r : Result ℕ Refusal) (x : Refusal) → answered r ≡ rule_answer rule → r ≡ Err x → x.place ≤ rule_most
+refused-place rule r x e f = omega (arith, (rule-small rule).place_in, ap place_of (sym e ∙ ap answered f))
 
 -- No refusal of a call has number 0.
 pub call-sound : (rule s : List ℕ) (t : Tag) → Sound (call_outcome rule s t)

@@ -3,8 +3,9 @@
 -- Shuts out: a verdict decided once and returned ever after; a rule that looks ahead and is taken; the order of 10 and 11 changed; a
 -- refused call that writes.
 -- Laws: proofs/CallLaws.antt, proofs/Only.antt, proofs/Agrees.antt (demand 3). Assumes nothing.
-use Rattle.std.specs.Prelude.{ℕ, ◌≡◌, Bool, false, cond, List}
-use Rattle.terms.specs.Answer.{number_of, place_of, by_answer, in_order, numbered, Answer}
+use Rattle.std.specs.Prelude.{ℕ, ◌≡◌, Bool, false, cond, List, Result, Ok, Err}
+use Rattle.terms.specs.Answer.{number_of, place_of, by_answer, in_order, numbered, Answer, number_of_fault}
+use Rattle.terms.specs.declared.refusal.Fault.{Fault}
 use Rattle.entry.specs.declared.entry.Entry.{Entry}
 use Rattle.rules.specs.Rule.{rule_answer}
 use Rattle.tag.specs.Tags.{Tag, opens, closes}
@@ -24,6 +25,11 @@ reply number place verdict = record { number = number; place = place; verdict = 
 -- The reply of an answer: its number and place, and the verdict where it is an acceptance.
 abbrev pub reply_of : Answer → (verdict : ℕ) → StepReply
 reply_of a verdict = reply (number_of a) (place_of a) (by_answer a verdict 0)
+
+-- The reply of a step with an accepted rule, as the code answers it: its verdict, or its fault.
+abbrev pub step_reply : Result Bool Fault → StepReply
+step_reply (Ok verdict) = reply 0 0 (bit verdict)
+step_reply (Err f) = reply (number_of_fault f) 0 0
 
 -- ---- start
 

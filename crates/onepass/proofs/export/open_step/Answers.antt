@@ -1,9 +1,15 @@
 -- `open_step`: 10 first, and else what the state's bytes say. Assumes nothing.
-use Rattle.onepass.proofs.CallLaws.{step-ahead, step-opened}
+use Rattle.std.proofs.Common.{rules}
+use Rattle.onepass.proofs.CallLaws.{step-looks-ahead, ahead-none, step-opened, step-not-opened}
 use Rattle.onepass.proofs.export.open_step.Goals as goal
 
-pub returns-then-ahead : goal.returns-then-ahead
-returns-then-ahead c = rw c.refuse_ahead.ensures (step-ahead _ _ _ _ _ c.if-ahead.true)
+pub returns-in_err-looks_back : goal.returns-in_err-looks_back
+returns-in_err-looks_back c =
+    let e = step-looks-ahead _ _ _ _ _ _ c.in_err-looks_back.ensures in search rules
+
+pub returns-in_err-open_state : goal.returns-in_err-open_state
+returns-in_err-open_state c =
+    let e = step-not-opened _ _ _ c.args.n _ _ _ (ahead-none _ c.in_ok-looks_back.ensures) c.in_err-open_state.ensures in search rules
 
 pub returns : goal.returns
-returns c = step-opened _ _ _ _ _ _ _ _ c.if-ahead.false c.open_state-number.ensures c.bit_at.ensures
+returns c = step-opened _ _ _ _ _ _ _ (ahead-none _ c.in_ok-looks_back.ensures) c.in_ok-open_state.ensures c.bit_at.ensures

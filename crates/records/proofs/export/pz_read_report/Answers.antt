@@ -1,8 +1,7 @@
 -- `pz_read_report` gives the report reader's answer as numbers: each fits, by the laws of `rules` and `reports` on places and counts. Assumes nothing.
 use native.Mathlib.Omega.{arith}
-use mathlib.Core.Path.{ap, sym, ◌∙◌}
+use mathlib.Core.Path.{ap}
 use Rattle.terms.specs.Answer.{place_of, count_of}
-use Rattle.records.specs.Reply.{report_reply}
 use Rattle.reports.proofs.ElementLaws.{report-small}
 use Rattle.records.proofs.export.pz_read_report.Goals as goal
 
@@ -21,9 +20,3 @@ overflow_cast-result-in-Err c =
       (report-small c.args.report.now).place_in,
       ap place_of (c.in-Err.ensures),
     )
-
-pub returns-in-Ok : goal.returns-in-Ok
-returns-in-Ok c = ap report_reply (c.in-Ok.ensures)
-
-pub returns-in-Err : goal.returns-in-Err
-returns-in-Err c = rw c.into.ensures (ap report_reply c.in-Err.ensures)

@@ -1,8 +1,7 @@
 -- `pz_read_rule` gives the rule reader's answer as numbers: each fits, by the laws of `rules` and `reports` on places and counts. Assumes nothing.
 use native.Mathlib.Omega.{arith}
-use mathlib.Core.Path.{ap, sym, ◌∙◌}
+use mathlib.Core.Path.{ap}
 use Rattle.terms.specs.Answer.{place_of, count_of}
-use Rattle.records.specs.Reply.{rule_reply}
 use Rattle.rules.proofs.EntryLaws.{rule-small}
 use Rattle.records.proofs.export.pz_read_rule.Goals as goal
 
@@ -21,9 +20,3 @@ overflow_cast-result-in-Err c =
       (rule-small c.args.rule.now).place_in,
       ap place_of (c.in-Err.ensures),
     )
-
-pub returns-in-Ok : goal.returns-in-Ok
-returns-in-Ok c = ap rule_reply (c.in-Ok.ensures)
-
-pub returns-in-Err : goal.returns-in-Err
-returns-in-Err c = rw c.into.ensures (ap rule_reply c.in-Err.ensures)
