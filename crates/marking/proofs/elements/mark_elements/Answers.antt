@@ -12,7 +12,7 @@ mark_entries-requires c =
     let p = c.args in
     let q = c.requires in
     let k = q.columns.1 in
-    let n = length-take-le p.n p.labels.now q.n_in_bounds.0 in
+    let n = length-take-le p.n p.elements.labels.now q.n_in_bounds.0 in
     let m = length-take-le p.n p.marks.now q.n_in_bounds.3 in
     record {
       rule_entries = q.rule_entries;
@@ -24,8 +24,8 @@ pub returns : goal.returns
 returns c = λ levels columns.
     let p = c.args in
     let q = c.requires in
-    let n = sym (length-take-le p.n p.labels.now q.n_in_bounds.0) ∙ columns.long in
+    let n = sym (length-take-le p.n p.elements.labels.now q.n_in_bounds.0) ∙ columns.long in
     let m = length-take-le p.n p.marks.now q.n_in_bounds.3 in
     let z = c.clear.ensures in
-    marked-first levels (take p.n p.labels.now) _ p.n _ n q.n_in_bounds.3 (ap length z ∙ length-replicate _ _ ∙ m) (c.mark_entries.ensures levels columns)
+    marked-first levels (take p.n p.elements.labels.now) _ p.n _ n q.n_in_bounds.3 (ap length z ∙ length-replicate _ _ ∙ m) (c.mark_entries.ensures levels columns)
     (rw (← last-bit p.entries.now q.rule_entries) c.count_with_bit.ensures)
