@@ -1,8 +1,6 @@
 -- `mark_entry`: each shape has its pass, and the pass leaves what the shape means. Assumes nothing.
 use mathlib.Core.Path.{refl}
-use Rattle.terms.specs.declared.kind.Axis.TheVariants.{Child}
 use Rattle.terms.specs.Kinds.{numbers_of}
-use Rattle.steps.specs.Steps.{column_of}
 use Rattle.marking.proofs.KindLaws.{column-room, passed-some, passed-until, passed-every, passed-local, passed-nothing, ups-nearest}
 use Rattle.marking.proofs.passes.mark_entry.Goals as goal
 
@@ -36,11 +34,8 @@ pub invariant_of-turn_pass : goal.invariant_of-turn_pass
 unfolding numbers_of
 invariant_of-turn_pass c = record { earlier = c.requires.earlier (rw c.in-EveryChild.is refl) }
 
-pub turn_pass-requires : goal.turn_pass-requires
-unfolding column_of
-turn_pass-requires c =
-    let p = c.requires in
-    record { room = (column-room p.columns.1 Child _ refl p.room).0; nearest = ups-nearest p.columns.1 }
+pub turn_pass-requires-clause-nearest : goal.turn_pass-requires-clause-nearest
+turn_pass-requires-clause-nearest c = ups-nearest c.requires.columns.1
 
 pub returns-in-Nothing : goal.returns-in-Nothing
 returns-in-Nothing c = let p = c.requires in λ levels columns. passed-nothing columns _ _ p.room c.in-Nothing.is
