@@ -5,7 +5,7 @@ ghost use Rattle.fields.specs.Fields.{bad_size, bad_fields};
 use terms::limits::{ELEMENTS_MOST, LEVELS_MOST};
 
 // How many bytes a state has.
-const STATE_BYTES: usize = 1040;
+pub const STATE_BYTES: usize = 1040;
 
 // Whether a state of so many bytes is bad.
 pub fn bad_size(size: usize) -> bool

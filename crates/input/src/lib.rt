@@ -12,6 +12,7 @@ use std::io::Read;
 pub fn read_full<R: Read>(from: &mut R, buf: &mut [u8]) -> io::Result<usize>
     ensures { IfOk result (λ n. ReadFully (R.remaining from.old) (R.remaining from.new) n buf.new) }
 {
+    // Not `read_exact`, to which an input that ends sooner is an error.
     let mut done = 0;
     while done < buf.len() {
         let n = from.read(&mut buf[done..])?;

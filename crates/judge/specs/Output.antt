@@ -4,7 +4,7 @@
 -- Assumes nothing.
 use Rattle.std.specs.Prelude.{ℕ, ◌≡◌, List, Option, None, Some, length}
 use Rattle.meaning.specs.Marks.{verdict, selected}
-use Rattle.terms.specs.Answer.{number_of, place_of, count_of, by_answer, where_accepted, in_order, Answer, Accepted, Refused}
+use Rattle.terms.specs.Answer.{number_of, place_of, count_of, by_answer, where_accepted, in_order, Answer, Accepted}
 use Rattle.marking.specs.Evaluation.{outcome, meant_words}
 use Rattle.numbers.specs.Lists.{over}
 use Rattle.text.specs.Text.{refused_line, accepted_text}

@@ -30,12 +30,10 @@ fn main(rt: HostRuntime) -> io::Result<()> {
     let n = read_input(&mut rt.stdin(), &mut input)?;
     let mut out = [0u8; text::put::TEXT_BYTES];
     let m = judge::judge::put_printout(&input[..n], &mut out);
-    let written = rt.write_all(&out[..m]);
-    if written.is_err() {
+    rt.write_all(&out[..m]).inspect_err(|_| {
         // Where this cannot be said either, the error that ends the program is still the record's.
         let _ = eprintln!(rt;
             "polonezar: the record was not written whole; nothing may be decided by it"
         );
-    }
-    written
+    })
 }

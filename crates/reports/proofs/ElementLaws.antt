@@ -21,7 +21,7 @@ use borrow.Author.Tests.{lt-ltb, le-ltb}
 use lib.Dec.{ltb, eqb}
 use Rattle.numbers.specs.Bytes.{number_at}
 use Rattle.terms.proofs.Reading.{mid-ended, mid-faulty, stops-not, mid-reached}
-use Rattle.tag.proofs.RecordLaws.{tag-opens, opens-kind, closes-kind, record-sound, open-sound, opens-size, closes-size}
+use Rattle.tag.proofs.RecordLaws.{opens-kind, closes-kind, record-sound, open-sound, opens-size, closes-size}
 use Rattle.reports.proofs.ReportLaws.{ReportMid, report-start, fault-is, tags-after, report-next, report-opens, report-open, report-closes, report-ends, report-refuses, report-empty, report-long}
 use Rattle.tag.proofs.TagLaws.{labels_append, levels-append, levels-count, opened-append}
 use Rattle.terms.specs.Limits.{report_most, elements_most}

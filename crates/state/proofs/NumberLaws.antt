@@ -1,11 +1,11 @@
 -- When a tag is taken, what it may read and write then, and what each return of the code promises. Assumes nothing.
-use Prim.Native.Nat.{ℕ, ◌-◌, ◌≤◌, ◌<◌}
+use Prim.Native.Nat.{ℕ, pred, ◌-◌, ◌≤◌, ◌<◌}
 use native.Mathlib.Omega.{arith}
 use borrow.Author.Tests.{ne_eqb, eqb-false, lt-ltb, le-ltb}
-use mathlib.Core.Path.{◌≡◌, refl, sym, ap, ◌∙◌}
+use mathlib.Core.Path.{◌≡◌, refl, ap, subst, ◌∙◌}
 use mathlib.Core.Bool.{Bool, true, false, cond, ◌||◌}
 use mathlib.Core.List.{List}
-use lib.Dec.{leb}
+use lib.Dec.{leb, eqb}
 use lib.ListN.{length, replicate}
 use Rattle.entry.specs.declared.entry.Entry.{Entry}
 use Rattle.terms.specs.Limits.{elements_most, levels_most, outside}
@@ -13,14 +13,21 @@ use Rattle.tag.specs.Tags.{Tag, opens, closes, tag_fault}
 use Rattle.tag.proofs.RecordLaws.{open-sound, close-sound}
 use Rattle.meaning.specs.OnePass.{fresh, fault, step_word, opened_word}
 use Rattle.state.specs.Promises.{readable, parent_in, sibling_in, WordsRead, start_number, state_number, StateStarted, StateOpened, StateClosed}
-use Rattle.fields.specs.Fields.{state_size, bad_size}
-use Rattle.fields.proofs.FieldLaws.{size-passed}
-use Rattle.state.specs.State.{depth_in, elements_in, root_in, state_of, bad, Good}
+use Rattle.state.specs.Front.{bad_front, FrontRead, WordsFound}
+use Rattle.fields.specs.Fields.{state_size, bad_size, present_word}
+use Rattle.fields.proofs.FieldLaws.{size-iff, size-passed}
+use Rattle.std.specs.Prelude.{Result, Ok, Err, Some}
+use Rattle.std.specs.Result.{IsErrAnd}
+use Rattle.terms.specs.Answer.{number_of_fault, fault_number}
+use Rattle.terms.specs.declared.refusal.Fault.{Fault}
+use Rattle.terms.specs.declared.refusal.Fault.TheVariants.{State}
+use Rattle.state.specs.State.{depth_in, elements_in, root_in, presence_in, open_place, last_place, state_of, bad, Good}
 use Rattle.state.specs.Stores.{start_after, opened_bytes, closed_bytes}
 use Rattle.state.specs.declared.state.Words.{Words}
+use Rattle.state.specs.declared.places.Front.{Front}
 use Rattle.state.proofs.GoodLaws.{good-iff}
 use Rattle.state.proofs.StateLaws.{parent-read, sibling-read, zeros-fresh, zeros-good, zeros-bytes}
-use Rattle.numbers.specs.Bytes.{Bytes}
+use Rattle.numbers.specs.Bytes.{Bytes, word_at}
 use Rattle.numbers.proofs.BitLaws.{pred-sub}
 
 -- ---- when a tag is taken
@@ -74,40 +81,70 @@ module _ (s : List ℕ) where
 
 -- ---- the test, as the code has it
 
-module _ (s : List ℕ) (b : Bool) (tested : b ≡ bad s) where
-  -- A state that the test lets through has 1,040 bytes.
-  pub tested-long : b ≡ false → length s ≡ state_size
-  tested-long f = ((good-iff s).0 (sym tested ∙ f)).long
+module _ (s : List ℕ) where
+  -- A state of another size is bad: 11.
+  pub number-other-size : (t : Tag) → (length s ≡ state_size → ⊥) → number_of_fault State ≡ state_number s t
+  unfolding state_number bad bad_size number_of_fault
+  number-other-size t n = rw (ne_eqb (length s) state_size n)
 
-  -- The state is bad: 11.
-  pub number-bad : (t : Tag) → b ≡ true → 11 ≡ state_number s t
-  unfolding state_number
-  number-bad t e = rw (← tested, e)
+  -- Of the right size it is bad by the numbers in front of its words alone.
+  bad-front : length s ≡ state_size → bad s ≡ bad_front s
+  unfolding bad
+  bad-front long = rw ((size-iff (length s)).1 long)
 
-  -- It is not: the number of the tag.
-  pub number-fault : (t : Tag) (k : ℕ) → b ≡ false → k ≡ fault (state_of s) t → k ≡ state_number s t
+  -- They are bad: 11.
+  pub number-bad : (t : Tag) {f : Fault} → length s ≡ state_size → FrontRead s (Err f) → number_of_fault f ≡ state_number s t
+  unfolding state_number number_of_fault
+  number-bad t long h = rw (h.1, bad-front long, h.0)
+
+  -- They are not: the number of the tag.
+  number-fault : (t : Tag) (k : ℕ) → length s ≡ state_size → bad_front s ≡ false → k ≡ fault (state_of s) t → k ≡ state_number s t
   unfolding state_number
-  number-fault t k e h = rw (← tested, e) h
+  number-fault t k long h e = rw (bad-front long, h) e
+
+  pub number-opens : (l k : ℕ) {f : Front} → length s ≡ state_size → FrontRead s (Ok f)
+      → k ≡ tag_fault f.depth f.elements (eqb f.root 1) (opens l) → k ≡ state_number s (opens l)
+  unfolding state_of
+  number-opens l k long h e = number-fault (opens l) k long h.0 (rw (← h.1, ← h.2, ← h.3) e)
+
+  pub number-closes : (k : ℕ) {f : Front} → length s ≡ state_size → FrontRead s (Ok f) → k ≡ tag_fault f.depth 0 false closes → k ≡ state_number s closes
+  unfolding state_of tag_fault
+  number-closes k long h e = number-fault closes k long h.0 (rw (← h.1) e)
+
+-- What is handed on by `?` keeps its number.
+pub handed-on : (r : Result Unit Fault) (f : Fault) → IsErrAnd r (λ e. e ≡ f) → fault_number r ≡ number_of_fault f
+handed-on (Err e) f h = ap number_of_fault h
+handed-on (Ok u) f h = absurd h
+
+-- What was read of an equal state.
+pub front-of : {s b : List ℕ} (r : Result Front Fault) → b ≡ s → FrontRead b r → FrontRead s r
+front-of r e h = subst (λ (x : List ℕ). FrontRead x r) e h
 
 -- ---- what is read
 
-module _ (s : List ℕ) (b : Bool) (tested : b ≡ bad s) where
-  -- Nothing of a bad state.
-  pub words-bad : (r : Words) → b ≡ true → (r.parent ≡ 0) × (r.sibling ≡ 0) → WordsRead s r
-  unfolding readable
-  words-bad r e n = record { parent_is = rw (← tested, e) n.0; sibling_is = rw (← tested, e) n.1 }
+module _ (s : List ℕ) where
+  -- Nothing of a state of another size, ..
+  pub unread-size : (length s ≡ state_size → ⊥) → readable s ≡ false
+  unfolding readable bad bad_size
+  unread-size n = rw (ne_eqb (length s) state_size n)
 
-  -- Nothing where no level is left.
-  pub words-full : (r : Words) → b ≡ false → levels_most ≤ depth_in s → (r.parent ≡ 0) × (r.sibling ≡ 0) → WordsRead s r
-  unfolding readable
-  words-full r e l n =
-      record { parent_is = rw (← tested, e, le-ltb (depth_in s) levels_most l) n.0; sibling_is = rw (← tested, e, le-ltb (depth_in s) levels_most l) n.1 }
+  module _ (long : length s ≡ state_size) where
+    -- .. of a bad one, ..
+    pub unread-bad : {f : Fault} → FrontRead s (Err f) → readable s ≡ false
+    unfolding readable
+    unread-bad h = rw (bad-front s long, h.0)
 
-  -- Else both words.
-  pub words-there : (r : Words) → b ≡ false → depth_in s < levels_most → r.parent ≡ parent_in s → r.sibling ≡ sibling_in s → WordsRead s r
-  unfolding readable
-  words-there r e l p q =
-      record { parent_is = rw (← tested, e, lt-ltb (depth_in s) levels_most l) p; sibling_is = rw (← tested, e, lt-ltb (depth_in s) levels_most l) q }
+    module _ {f : Front} (h : FrontRead s (Ok f)) where
+      -- .. and where no level is left.
+      pub unread-full : levels_most ≤ f.depth → readable s ≡ false
+      unfolding readable
+      unread-full l = rw (bad-front s long, h.0, le-ltb (depth_in s) levels_most (rw h.1 at l))
+
+      -- Else both words.
+      pub words-there : {p q : ℕ} → f.depth < levels_most → p ≡ cond (eqb f.depth 0) 0 (word_at 8 s (open_place (pred f.depth)))
+          → q ≡ present_word (presence_in s) f.depth (word_at 8 s (last_place f.depth)) → WordsFound s (Some (record { parent = p; sibling = q }))
+      unfolding readable
+      words-there l p q = (rw (bad-front s long, h.0, lt-ltb (depth_in s) levels_most (rw h.1 at l)), rw h.1 at p, rw h.1 at q)
 
 -- The word of an opening that is taken, from the words that were read.
 pub opened-read : (es : List Entry) (s : List ℕ) (l : ℕ) (r : Words) → WordsRead s r → state_number s (opens l) ≡ 0
@@ -124,8 +161,8 @@ opened-read es s l r w z =
 
 module _ (s : List ℕ) (b : Bool) (tested : b ≡ bad_size (length s)) where
   -- Start with another size.
-  pub start-refused : b ≡ true → StateStarted s 11 s
-  unfolding start_number start_after
+  pub start-refused : b ≡ true → StateStarted s (number_of_fault State) s
+  unfolding start_number start_after number_of_fault
   start-refused e = record { number_is = rw (← tested, e); state_is = rw (← tested, e) }
 
   -- Start with 1,040 bytes.
@@ -155,21 +192,20 @@ module _ (s : List ℕ) (z : start_number s ≡ 0) where
   pub start-bytes : Bytes (start_after s)
   start-bytes = rw start-zeros (zeros-bytes state_size)
 
-module _ (s : List ℕ) (k : ℕ) where
+module _ (s : List ℕ) (k : ℕ) {after : List ℕ} where
   -- An opening that is refused: the number, and the bytes as they were.
-  pub open-refused : (l w : ℕ) → k ≡ state_number s (opens l) → (k ≡ 0 → ⊥) → StateOpened s l w k s
-  open-refused l w e n = record { number_is = e; state_is = rw (← e, ne_eqb k 0 n) }
+  pub open-refused : (l w : ℕ) → k ≡ state_number s (opens l) → (k ≡ 0 → ⊥) → after ≡ s → StateOpened s l w k after
+  open-refused l w e n a = record { number_is = e; state_is = rw (← e, ne_eqb k 0 n) a }
 
   -- One that is taken: what opening writes.
-  pub open-taken : (l w d e : ℕ) (after : List ℕ) → k ≡ state_number s (opens l) → k ≡ 0 → d ≡ depth_in s → e ≡ elements_in s
+  pub open-taken : (l w : ℕ) {d e : ℕ} → k ≡ state_number s (opens l) → k ≡ 0 → d ≡ depth_in s → e ≡ elements_in s
       → after ≡ opened_bytes d e w s → StateOpened s l w k after
-  open-taken l w d e after n z dd ee aa = record { number_is = n; state_is = rw (← n, z, ← dd, ← ee) aa }
+  open-taken l w n z dd ee aa = record { number_is = n; state_is = rw (← n, z, ← dd, ← ee) aa }
 
   -- A closing that is refused.
-  pub close-refused : k ≡ state_number s closes → (k ≡ 0 → ⊥) → StateClosed s k s
-  close-refused e n = record { number_is = e; state_is = rw (← e, ne_eqb k 0 n) }
+  pub close-refused : k ≡ state_number s closes → (k ≡ 0 → ⊥) → after ≡ s → StateClosed s k after
+  close-refused e n a = record { number_is = e; state_is = rw (← e, ne_eqb k 0 n) a }
 
   -- One that is taken: what closing writes.
-  pub close-taken : (d : ℕ) (after : List ℕ) → k ≡ state_number s closes → k ≡ 0 → d ≡ depth_in s → after ≡ closed_bytes (d - 1) s
-      → StateClosed s k after
-  close-taken d after n z dd aa = record { number_is = n; state_is = rw (← n, z, ← dd, ← pred-sub d) aa }
+  pub close-taken : {d : ℕ} → k ≡ state_number s closes → k ≡ 0 → d ≡ depth_in s → after ≡ closed_bytes (d - 1) s → StateClosed s k after
+  close-taken {d} n z dd aa = record { number_is = n; state_is = rw (← n, z, ← dd, ← pred-sub d) aa }

@@ -3,3 +3,4 @@ pub mod Layout
 pub mod State
 pub mod Stores
 pub mod Promises
+pub mod Front

@@ -1,16 +1,15 @@
-// What start, an opening and a closing get from the state alone, and what they write there. A number
-// other than 0 is a refusal, and then the bytes are as they were.
-ghost use Rattle.std.specs.Prelude.{◌≡◌};
+// What start, an opening and a closing get from the state alone, and what they write there. Where they
+// are refused the bytes are as they were.
 ghost use Rattle.state.specs.Promises.{WordsRead, StateStarted, StateOpened, StateClosed};
+ghost use Rattle.state.specs.Front.{WordsFound};
+ghost use Rattle.terms.specs.Answer.{fault_number};
 
-use crate::bytes::number_at;
-use crate::places::{
-    DEPTH, ELEMENTS, ROOT, bad_state, parent_word, sibling_word, store_closing, store_opening,
-};
+use crate::places::{parent_word, read_front, sibling_word, store_closing, store_opening};
 use fields::bad::bad_size;
 use fields::zeros::clear;
 use tag::tag::{close_fault, open_fault};
 use terms::limits::LEVELS_MOST;
+use terms::refusal::Fault;
 
 // The words of the parent and of the previous sibling that an opening reads.
 #[derive(Clone, Copy)]
@@ -19,76 +18,66 @@ pub struct Words {
     pub sibling: u64,
 }
 
-// No word is read.
-fn no_words() -> Words
-    ensures { (result.parent ≡ 0) × (result.sibling ≡ 0) }
+// The words that an opening reads: none of a bad state, and none where no level is left.
+fn find_words(state: &[u8]) -> Option<Words>
+    ensures { WordsFound state.now result }
 {
-    Words {
-        parent: 0,
-        sibling: 0,
+    let bytes = state.as_array()?;
+    let Ok(front) = read_front(bytes) else {
+        return None;
+    };
+    if LEVELS_MOST <= front.depth {
+        return None;
     }
+    Some(Words {
+        parent: parent_word(bytes, front.depth),
+        sibling: sibling_word(bytes, front.depth),
+    })
 }
 
-// The words that an opening reads: none of a bad state, and none where no level is left.
+// The same, where a word that there is not is 0.
 pub fn words_of(state: &[u8]) -> Words
     ensures { WordsRead state.now result }
 {
-    if bad_state(state) {
-        return no_words();
-    }
-    let d = number_at(state, DEPTH);
-    if LEVELS_MOST <= d {
-        return no_words();
-    }
-    let p = parent_word(state, d);
-    let q = sibling_word(state, d);
-    Words {
-        parent: p,
-        sibling: q,
-    }
+    find_words(state).unwrap_or(Words {
+        parent: 0,
+        sibling: 0,
+    })
 }
 
 // Begins a report.
-pub fn start_state(state: &mut [u8]) -> u32
-    ensures { StateStarted state.old result state.new }
+pub fn start_state(state: &mut [u8]) -> Result<(), Fault>
+    ensures { StateStarted state.old (fault_number result) state.new }
 {
     if bad_size(state.len()) {
-        return 11;
+        return Err(Fault::State);
     }
     clear(state);
-    0
+    Ok(())
 }
 
 // Opens an element whose word is w.
-pub fn open_state(state: &mut [u8], label: usize, w: u64) -> u32
-    ensures { StateOpened state.old label w result state.new }
+pub fn open_state(state: &mut [u8], label: usize, w: u64) -> Result<(), Fault>
+    ensures { StateOpened state.old label w (fault_number result) state.new }
 {
-    if bad_state(state) {
-        return 11;
-    }
-    let d = number_at(state, DEPTH);
-    let elements = number_at(state, ELEMENTS);
-    let root = number_at(state, ROOT);
-    let fault = open_fault(d, elements, root == 1, label);
-    let fine = fault == 0;
-    if fine {
-        store_opening(state, d, elements, w);
-    }
-    fault
+    let Some(bytes) = state.as_mut_array() else {
+        return Err(Fault::State);
+    };
+    let front = read_front(bytes)?;
+    open_fault(front.depth, front.elements, front.root == 1, label)?;
+    store_opening(bytes, front, w);
+    Ok(())
 }
 
 // Closes the innermost open element.
-pub fn close_state(state: &mut [u8]) -> u32
-    ensures { StateClosed state.old result state.new }
+pub fn close_state(state: &mut [u8]) -> Result<(), Fault>
+    ensures { StateClosed state.old (fault_number result) state.new }
 {
-    if bad_state(state) {
-        return 11;
-    }
-    let d = number_at(state, DEPTH);
-    let number = close_fault(d);
-    let fine = number == 0;
-    if fine {
-        store_closing(state, d - 1);
-    }
-    number
+    let Some(bytes) = state.as_mut_array() else {
+        return Err(Fault::State);
+    };
+    let depth = read_front(bytes)?.depth;
+    close_fault(depth)?;
+    store_closing(bytes, depth - 1);
+    Ok(())
 }

@@ -9,7 +9,7 @@ use Rattle.terms.specs.Answer.{answered, fault_number}
 use Rattle.terms.specs.declared.refusal.Fault.{Fault}
 use Rattle.terms.specs.declared.refusal.Refusal.{Refusal}
 use Rattle.terms.proofs.FaultLaws.{fault-number-some, fault-only, answered-only, fault-number-only}
-use Rattle.tag.specs.Tags.{Tag, opens, closes, labels, opened_count, tag_fault, end_of}
+use Rattle.tag.specs.Tags.{opens, closes, tag_fault, end_of}
 use Rattle.tag.specs.Taken.{TagTaken, tag_of}
 use Rattle.tag.specs.declared.tag.Tag.{Tag as CodeTag}
 use Rattle.tag.specs.declared.tag.Tag.TheVariants.{Opening, Closing}

@@ -9,7 +9,7 @@ use mathlib.Core.List.{List}
 use lib.Dec.{leb, ltb, eqb}
 use lib.ListN.{length}
 use Rattle.numbers.specs.Bytes.{number_at}
-use Rattle.terms.specs.Frame.{frame_of, kind_at, broken, broken_at, Frame, Whole, Cut, Garbled}
+use Rattle.terms.specs.Frame.{frame_of, kind_at, broken, Frame, Whole, Cut, Garbled}
 use Rattle.tag.specs.Tags.{Tag, opens, closes, tag_fault}
 use Rattle.tag.specs.Record.{report_length, tag_at, record_fault}
 use Rattle.terms.proofs.FrameLaws.{Stands, frame-few, frame-unknown, frame-wrong, frame_past, frame-whole, whole-stands}

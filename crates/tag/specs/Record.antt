@@ -2,7 +2,7 @@
 -- and their order.
 -- Shuts out: 7 or 8 before 6; a record that is not whole taken for an opening.
 -- Laws: proofs/RecordLaws.antt, and the crate grammar. Assumes nothing.
-use Rattle.std.specs.Prelude.{ℕ, ◌+◌, true, false, cond, ◌&&◌, List, ltb, eqb}
+use Rattle.std.specs.Prelude.{ℕ, ◌+◌, cond, ◌&&◌, List, ltb, eqb}
 use Rattle.numbers.specs.Bytes.{number_at}
 use Rattle.terms.specs.Frame.{kind_at, broken_at}
 use Rattle.tag.specs.Tags.{Tag, opens, closes, tag_fault}

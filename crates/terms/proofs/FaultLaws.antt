@@ -2,10 +2,11 @@
 use Prim.Native.Nat.{ℕ, ◌-◌}
 use native.Mathlib.Omega.{arith}
 use mathlib.Core.Path.{◌≡◌, refl, sym, ap, ◌∙◌}
-use mathlib.Core.List.{List, [], ◌∷◌}
+use mathlib.Core.List.{[], ◌∷◌}
 use lib.ListN.{get_or}
 use Rattle.std.specs.Prelude.{Result, Ok, Err}
-use Rattle.terms.specs.Answer.{Answer, Accepted, Refused, count_of, number_of, place_of, number_of_fault, answered, fault_number}
+use Rattle.std.specs.Result.{IsErrAnd}
+use Rattle.terms.specs.Answer.{Answer, count_of, number_of, place_of, number_of_fault, answered, fault_number}
 use Rattle.terms.specs.declared.refusal.Fault.{Fault}
 use Rattle.terms.specs.declared.refusal.Fault.TheVariants.{RuleSize, RuleRecord, RuleNumbers, RuleEntries, ReportSize, ReportRecord, Nesting, ReportLimits, Room, LooksAhead, State, Tally, Text, TextEntries}
 use Rattle.terms.specs.declared.refusal.Refusal.{Refusal}
@@ -71,3 +72,8 @@ fault-number-only (Ok x) (Ok y) e = refl
 fault-number-only (Ok x) (Err f) e = absurd (fault-number-some f (sym e))
 fault-number-only (Err f) (Ok x) e = absurd (fault-number-some f e)
 fault-number-only (Err f) (Err g) e = ap (λ (k : Fault). Err k) (fault-only f g e)
+
+-- What `?` hands on is the error that it met.
+pub handed-on : {A : Type 0} (r : Result A Fault) (f : Fault) → IsErrAnd r (λ e. e ≡ f) → r ≡ Err f
+handed-on (Err e) f h = ap (λ (x : Fault). Err x) h
+handed-on (Ok u) f h = absurd h

@@ -1,6 +1,6 @@
 -- An entry that looks ahead; a walk turn by turn, one entry more behind the others; what it says of an accepted rule.
 -- Assumes nothing.
-use Prim.Native.Nat.{ℕ, suc, ◌+◌, ◌*◌, ◌^◌}
+use Prim.Native.Nat.{ℕ, suc, ◌*◌, ◌^◌}
 use native.Mathlib.Omega.{arith}
 use native.Mathlib.Numerals.{add-one}
 use mathlib.Core.Path.{◌≡◌, refl, sym, ap, ◌∙◌}

@@ -1,8 +1,7 @@
 -- `visit_entries`: each turn takes one record, and the visitor sees its entry. Assumes nothing.
 use native.Mathlib.Omega.{arith}
-use mathlib.Core.Path.{◌∙◌}
 use Rattle.terms.specs.Answer.{number_of_fault}
-use Rattle.rules.proofs.RuleLaws.{Onward, rule-onward, rule-empty, rule-long}
+use Rattle.rules.proofs.RuleLaws.{rule-onward, rule-empty, rule-long}
 use Rattle.rules.proofs.EntryLaws.{visit-start, visit-kept, visit-turn, visit-done, halts-ended, halts-faulty, entries_none, entries-many}
 use Rattle.rules.proofs.visit.visit_entries.Goals as goal
 

@@ -13,7 +13,7 @@ returns c =
       c.put_word-2.ensures,
       c.put_word.ensures,
       c.with_bit.ensures,
-      with-bit-own c.args.d _ _ c.requires.1,
+      with-bit-own c.args.d _ _ c.requires,
       c.number_at-root.ensures.0,
       c.word_at-presence.ensures,
       c.word_at-w.ensures,

@@ -1,37 +1,44 @@
+-- `close_state`: one law for each way out. Assumes nothing.
 use native.Mathlib.Omega.{arith}
-use mathlib.Core.Path.{◌≡◌, sym, ◌∙◌}
-use Rattle.tag.specs.Tags.{closes, tag_fault}
-use Rattle.state.specs.Promises.{state_number}
-use Rattle.state.specs.State.{state_of}
-use Rattle.state.proofs.NumberLaws.{closes-fine, tested-long, number-bad, number-fault, close-refused, close-taken}
+use mathlib.Core.Path.{refl, sym, ◌∙◌}
+use Rattle.std.specs.Prelude.{Ok, Err}
+use Rattle.terms.proofs.FaultLaws.{fault-number-some}
+use Rattle.state.proofs.NumberLaws.{front-of, handed-on, number-other-size, number-bad, number-closes, closes-fine, close-refused, close-taken}
 use Rattle.state.proofs.state.close_state.Goals as goal
-use Rattle.state.proofs.state.close_state.Goals.{After-close_fault-number}
 
--- What `close_fault` gives is the closing's number.
-number : (c : After-close_fault-number) → c.close_fault-number.result ≡ state_number c.args.state.now closes
-unfolding state_of tag_fault
-number c =
-    number-fault _ _ c.bad_state.ensures _ _ c.if-bad_state.false (c.close_fault-number.ensures ∙ rw c.number_at-d.ensures.0)
+pub returns-in_default : goal.returns-in_default
+returns-in_default c = let h = c.in_default.ensures in close-refused _ _ (number-other-size _ _ h.cases) (fault-number-some _) refl
 
-pub returns-then-bad_state : goal.returns-then-bad_state
-returns-then-bad_state c = close-refused _ _ (number-bad _ _ c.bad_state.ensures _ c.if-bad_state.true) (λ z. omega arith)
+pub returns-in_err-depth : goal.returns-in_err-depth
+returns-in_err-depth c =
+    let h = c.in-Some.ensures.cases in
+    let f = front-of (Err c.in_err-depth.field-0.0) h.same c.in_err-depth.ensures in
+    let n = handed-on c.from_residual.result _ c.from_residual.ensures.1 in
+    close-refused _ _ (n ∙ number-bad _ _ h.long f) (λ z. fault-number-some _ (sym n ∙ z)) h.same
 
-pub number_at-d-requires : goal.number_at-d-requires
-number_at-d-requires c = omega (arith, tested-long _ _ c.bad_state.ensures c.if-bad_state.false)
+pub returns-in_err-close_fault : goal.returns-in_err-close_fault
+returns-in_err-close_fault c =
+    let h = c.in-Some.ensures.cases in
+    let f = front-of (Ok c.in_ok-depth.field-0) h.same c.in_ok-depth.ensures in
+    let n = handed-on c.from_residual-in_err-close_fault.result _ c.from_residual-in_err-close_fault.ensures.1 in
+    close-refused _ _ (n ∙ number-closes _ _ h.long f c.in_err-close_fault.ensures) (λ z. fault-number-some _ (sym n ∙ z)) h.same
 
-pub overflow_sub-d : goal.overflow_sub-d
-overflow_sub-d c =
-    let r = closes-fine _ (sym (number (goal.at.overflow_sub-d c).After-close_fault-number) ∙ c.if-fine.true) in
-    omega (arith, r.1, c.number_at-d.ensures.0)
+pub overflow_sub-depth : goal.overflow_sub-depth
+overflow_sub-depth c =
+    let h = c.in-Some.ensures.cases in
+    let f = front-of (Ok c.in_ok-depth.field-0) h.same c.in_ok-depth.ensures in
+    let r = closes-fine _ (sym (number-closes _ _ h.long f c.in_ok-close_fault.ensures)) in
+    omega (arith, f.1, r.1)
 
 pub store_closing-requires : goal.store_closing-requires
 store_closing-requires c =
-    let r = closes-fine _ (sym (number (goal.at.store_closing-requires c).After-close_fault-number) ∙ c.if-fine.true) in
-    (r.0, omega (arith, r.1, r.2, c.number_at-d.ensures.0))
+    let h = c.in-Some.ensures.cases in
+    let f = front-of (Ok c.in_ok-depth.field-0) h.same c.in_ok-depth.ensures in
+    let r = closes-fine _ (sym (number-closes _ _ h.long f c.in_ok-close_fault.ensures)) in
+    omega (arith, f.1, r.1, r.2)
 
-pub returns-then-fine : goal.returns-then-fine
-returns-then-fine c =
-    close-taken _ _ _ _ (number (goal.at.returns-then-fine c).After-close_fault-number) c.if-fine.true c.number_at-d.ensures.0 c.store_closing.ensures
-
-pub returns-else-fine : goal.returns-else-fine
-returns-else-fine c = close-refused _ _ (number (goal.at.returns-else-fine c).After-close_fault-number) c.if-fine.false
+pub returns : goal.returns
+returns c =
+    let h = c.in-Some.ensures.cases in
+    let f = front-of (Ok c.in_ok-depth.field-0) h.same c.in_ok-depth.ensures in
+    close-taken _ _ (number-closes _ _ h.long f c.in_ok-close_fault.ensures) refl f.1 (rw (← h.same) c.store_closing.ensures)

@@ -5,5 +5,4 @@ pub returns-then-bad_size : goal.returns-then-bad_size
 returns-then-bad_size c = start-refused _ _ c.bad_size.ensures c.if-bad_size.true
 
 pub returns : goal.returns
-returns c =
-    start-done _ _ c.bad_size.ensures _ c.if-bad_size.false c.clear.ensures
+returns c = start-done _ _ c.bad_size.ensures _ c.if-bad_size.false c.clear.ensures

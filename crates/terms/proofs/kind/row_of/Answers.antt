@@ -12,9 +12,6 @@ pub returns-in-14 : goal.returns-in-14
 unfolding row_of numbers_of local_numbers axis_of
 returns-in-14 c = sym (ap row_of c.in-14.is)
 
-pub returns-in-1-to-5 : goal.returns-in-1-to-5
-returns-in-1-to-5 c = c.local_row.ensures
-
 pub returns-in-6-to-9 : goal.returns-in-6-to-9
 unfolding row_of numbers_of local_numbers axis_of
 returns-in-6-to-9 c =
