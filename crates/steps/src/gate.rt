@@ -34,7 +34,7 @@ pub fn not_gate(a: usize) -> Gate
     ensures { result ≡ not_gate a }
 {
     Gate {
-        a: a,
+        a,
         b: a,
         first: true,
         second: true,
@@ -47,8 +47,8 @@ pub fn or_gate(a: usize, b: usize) -> Gate
     ensures { result ≡ or_gate a b }
 {
     Gate {
-        a: a,
-        b: b,
+        a,
+        b,
         first: true,
         second: true,
         outcome: true,
@@ -60,8 +60,8 @@ pub fn and_gate(a: usize, b: usize) -> Gate
     ensures { result ≡ and_gate a b }
 {
     Gate {
-        a: a,
-        b: b,
+        a,
+        b,
         first: false,
         second: false,
         outcome: false,
