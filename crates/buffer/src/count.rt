@@ -4,8 +4,8 @@ ghost use Rattle.numbers.specs.Bits.{in_word, have_bit};
 
 use steps::word::bit_in;
 
-// How many words have bit i. A loop and no chain: `filter(..).count()` takes no several words at once, and
-// a whole report 4 to 9 percent longer.
+// How many words have bit i. A loop and no chain: `filter(..).count()` takes one word at a time, and a
+// report of 4,096 elements then 63 us in place of 59.
 pub fn count_with_bit(words: &[u64], i: usize) -> usize
     ensures { result ≡ have_bit (in_word i) words.now }
 {

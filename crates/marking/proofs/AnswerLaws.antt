@@ -1,6 +1,6 @@
 -- Laws behind the marking's answer: the order of refusals, one law for each way through, and what the filled tables are.
 -- Assumes nothing.
-use Prim.Native.Nat.{ℕ, pred, ◌*◌, ◌≤◌, ◌<◌}
+use Prim.Native.Nat.{ℕ, pred, ◌≤◌, ◌<◌}
 use native.Mathlib.Decide.{dec_lt}
 use native.Mathlib.Omega.{arith}
 use borrow.Author.Tests.{lt-ltb, le-ltb, ltb-true, ltb-false}
@@ -10,7 +10,7 @@ use mathlib.Core.List.{List, []}
 use lib.Dec.{ltb}
 use lib.ListN.{length, take}
 use lib.Seq.{length-take-le}
-use Rattle.terms.specs.Answer.{number_of, count_of, place_of, by_answer, in_order, Answer, Accepted, Refused, number_of_fault, answered}
+use Rattle.terms.specs.Answer.{number_of, count_of, by_answer, in_order, Answer, Accepted, Refused, number_of_fault, answered}
 use Rattle.rules.specs.Rule.{rule_answer}
 use Rattle.reports.specs.Report.{report_answer}
 use Rattle.entry.specs.declared.entry.Entry.{Entry}

@@ -1,6 +1,6 @@
 -- The marks of each kind's pass are the meaning's; the words after each entry; the words as the list that is promised.
 -- Assumes nothing.
-use Prim.Native.Nat.{ℕ, pred, ◌+◌, ◌*◌, ◌-◌, ◌≤◌, ◌<◌}
+use Prim.Native.Nat.{ℕ, pred, ◌+◌, ◌-◌, ◌≤◌, ◌<◌}
 use native.Mathlib.Decide.{dec_lt}
 use native.Mathlib.Nat.{mod-eq_of_lt}
 use native.Mathlib.Numerals.{add-one}
@@ -36,7 +36,6 @@ use Rattle.steps.specs.Steps.{column_of}
 use Rattle.steps.specs.declared.ahead.AskedAhead.TheVariants.{Every}
 use Rattle.layout.proofs.LinkLaws.{ups-all, lefts-all, parent-next}
 use Rattle.marking.proofs.PassLaws.{stored-start, stored_same, passed_start}
-use Rattle.terms.specs.Limits.{entries_most}
 use Rattle.numbers.proofs.Lists.{over-is}
 use Rattle.numbers.specs.Bits.{word, word_bits, in_word}
 use Rattle.numbers.proofs.BitLaws.{pred-sub, word-bit, word_lt}

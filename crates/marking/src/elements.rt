@@ -1,8 +1,10 @@
 // The words of a report's elements.
 ghost use Rattle.std.specs.Prelude.{List, ℕ, ◌≤◌, length, take};
 ghost use Rattle.grammar.specs.Rules.{RuleEntries};
-ghost use Rattle.marking.specs.Pass.{Columns, Marked};
+ghost use Rattle.marking.specs.Pass.{Marked};
+ghost use Rattle.marking.specs.Given.{FirstColumnsOf};
 
+use crate::asked::Elements;
 use crate::passes::mark_entries;
 use buffer::clear::clear;
 use buffer::count::count_with_bit;
@@ -10,21 +12,24 @@ use entry::entry::Entry;
 
 // Marks the n elements of a report with the entries of a rule, and counts those whose last entry's
 // mark is true, with the entries and the columns of an accepted rule and report.
-pub(crate) fn mark_elements<'a>(
+pub(crate) fn mark_elements(
     entries: &[Entry],
     n: usize,
-    labels: &[u16],
-    ups: &'a [u16],
-    lefts: &'a [u16],
+    elements: Elements,
     marks: &mut [u64],
 ) -> usize
     requires rule_entries { RuleEntries entries.now }
-    requires columns { (levels : List ℕ) × Columns levels (take n labels.now) (take n ups.now) (take n lefts.now) }
-    requires n_in_bounds { (n ≤ length labels.now) × (n ≤ length ups.now) × (n ≤ length lefts.now) × (n ≤ length marks.old) }
-    ensures { (levels : List ℕ) → Columns levels (take n labels.now) (take n ups.now) (take n lefts.now) → Marked entries.now levels (take n labels.now) marks.old result marks.new }
+    requires columns { (levels : List ℕ) × FirstColumnsOf n levels elements }
+    requires n_in_bounds { (n ≤ length elements.labels.now) × (n ≤ length elements.ups.now) × (n ≤ length elements.lefts.now) × (n ≤ length marks.old) }
+    ensures { (levels : List ℕ) → FirstColumnsOf n levels elements.entry → Marked entries.now levels (take n elements.entry.labels.now) marks.old result marks.new }
 {
     let words = &mut marks[..n];
     clear(words);
-    mark_entries(entries, &labels[..n], &ups[..n], &lefts[..n], words);
+    let first = Elements {
+        labels: &elements.labels[..n],
+        ups: &elements.ups[..n],
+        lefts: &elements.lefts[..n],
+    };
+    mark_entries(entries, first, words);
     count_with_bit(words, entries.len() - 1)
 }

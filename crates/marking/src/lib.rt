@@ -4,6 +4,7 @@
 #![tactic(auto)]
 
 mod ahead;
+mod asked;
 mod back;
 mod elements;
 mod local;

@@ -3,6 +3,7 @@ ghost use Rattle.std.specs.Prelude.{◌≡◌, ◌≤◌};
 ghost use Rattle.grammar.specs.Rules.{RuleEntries};
 ghost use Rattle.marking.specs.Evaluation.{MarkedBy, ReportMarked};
 
+use crate::asked::Elements;
 use crate::elements::mark_elements;
 use entry::entry::Entry;
 use layout::columns::lacks_room;
@@ -60,7 +61,8 @@ fn mark_by_entries(
     ) {
         return Err(Fault::Room.at(0));
     }
-    let selected = mark_elements(entries, n, labels, ups, lefts, marks);
+    let read = Elements { labels, ups, lefts };
+    let selected = mark_elements(entries, n, read, marks);
     Ok(Counted {
         elements: n,
         selected,

@@ -1,13 +1,12 @@
 -- Laws of the functions that make a part of another, and of the rows: one for each return, over plain lists and numbers.
 -- Assumes nothing.
-use Prim.Native.Nat.{ℕ, zero, suc, ◌+◌, ◌-◌, ◌*◌, ◌≤◌, ◌<◌}
-use native.Mathlib.Numerals.{add-one}
-use native.Mathlib.Omega.{arith}
+use Prim.Native.Nat.{ℕ, zero, suc, ◌+◌, ◌-◌, ◌≤◌, ◌<◌}
 use mathlib.Core.Path.{◌≡◌, refl}
 use mathlib.Core.Bool.{Bool, true, false}
 use mathlib.Core.List.{List}
 use borrow.Author.Tests.{le-leb, lt-leb}
 use lib.ListN.{set}
+use Rattle.parse.specs.declared.tree.Row.{Row}
 use Rattle.std.specs.Prelude.{Result, Ok, Err}
 use Rattle.words.specs.declared.words.Stray.{Stray}
 use Rattle.parse.specs.declared.tree.Parsed.{Parsed}
@@ -22,13 +21,10 @@ use Rattle.paths.specs.Answer.{text_most}
 
 -- ---- rows
 
-module _ (rows : List ℕ) (n form a b : ℕ) where
-  pub row-filled : n ≤ entries_most → set (set (set rows (3 * n - 3) form) (3 * n - 3 + 1) a) (3 * n - 3 + 2) b ≡ note_row rows n form a b
+module _ (rows : List Row) (n form a b : ℕ) where
+  pub row-filled : n ≤ entries_most → set rows (n - 1) (record { form = form; first = a; second = b }) ≡ note_row rows n form a b
   unfolding note_row
-  row-filled l =
-      let i = 3 * n - 3 in
-      let next : i + 1 ≡ suc i = add-one i in
-      let last : i + 2 ≡ suc (suc i) = omega arith in rw (le-leb n entries_most l, next, last)
+  row-filled l = rw (le-leb n entries_most l)
 
   pub row-none : entries_most < n → rows ≡ note_row rows n form a b
   unfolding note_row
@@ -40,23 +36,23 @@ module _ (rows : List ℕ) (n form a b : ℕ) where
 pub small_of : (p : Parsed) (e : ℕ) (v : Bool) (n b : ℕ) → p ≡ Done e v n b → Small p → (n ≤ text_most) × (b ≤ 8192)
 small_of p e v n b q h = rw q at h
 
-module _ (e label k : ℕ) (rows after : List ℕ) where
+module _ (e label k : ℕ) (rows after : List Row) where
   pub leaf-true : label ≡ 0 → after ≡ note_row rows (k + 1) 1 0 0
       → (Done e true 1 4 ≡ Done e true 1 (leaf_bytes label)) × (after ≡ note_t (leaf_tree label) k rows)
   unfolding leaf_bytes leaf_tree note_t
   leaf-true z h = rw z (refl, h)
 
-pub leaf-label : (e label k : ℕ) (rows after : List ℕ) → (label ≡ 0 → ⊥) → after ≡ note_row rows (k + 1) 2 label 0
+pub leaf-label : (e label k : ℕ) (rows after : List Row) → (label ≡ 0 → ⊥) → after ≡ note_row rows (k + 1) 2 label 0
     → (Done e true 1 6 ≡ Done e true 1 (leaf_bytes label)) × (after ≡ note_t (leaf_tree label) k rows)
 unfolding leaf_bytes leaf_tree note_t
 leaf-label e zero k rows after z h = absurd (z refl)
 leaf-label e (suc l) k rows after z h = (refl, h)
 
 module _ (p : Parsed) (q : ℕ) (bad : p ≡ Bad q) where
-  pub except-bad : (k : ℕ) (rows after : List ℕ) → Excepted p k rows (Bad q) after
+  pub except-bad : (k : ℕ) (rows after : List Row) → Excepted p k rows (Bad q) after
   except-bad k rows after = rw bad
 
-  pub either-bad : (k n b : ℕ) (rows after : List ℕ) → EitherOf p k n b rows (Bad q) after
+  pub either-bad : (k n b : ℕ) (rows after : List Row) → EitherOf p k n b rows (Bad q) after
   either-bad k n b rows after = rw bad
 
   pub closing-bad : Closing p (Bad q)
@@ -65,18 +61,18 @@ module _ (p : Parsed) (q : ℕ) (bad : p ≡ Bad q) where
   pub shut-bad : (x s : List ℕ) → Shut x s p (Bad q)
   shut-bad x s = rw bad
 
-  pub step-bad : (k form before : ℕ) (rows after : List ℕ) → StepOf p k form before rows (Bad q) after
+  pub step-bad : (k form before : ℕ) (rows after : List Row) → StepOf p k form before rows (Bad q) after
   step-bad k form before rows after = rw bad
 
 module _ (p : Parsed) (e : ℕ) (v : Bool) (n b : ℕ) (done : p ≡ Done e v n b) where
-  pub except-done : (k : ℕ) (rows after : List ℕ) → after ≡ note_row rows (k + n + 1) 3 (k + n) 0
+  pub except-done : (k : ℕ) (rows after : List Row) → after ≡ note_row rows (k + n + 1) 3 (k + n) 0
       → Excepted p k rows (Done e v (n + 1) (b + 6)) after
   except-done k rows after h = rw done (refl, h)
 
-  pub either-done : (k m c : ℕ) (rows after : List ℕ) → after ≡ note_row rows (k + n + 1) 4 k (k + n) → EitherOf p k m c rows (Done e v (n + m + 1) (b + c + 8)) after
+  pub either-done : (k m c : ℕ) (rows after : List Row) → after ≡ note_row rows (k + n + 1) 4 k (k + n) → EitherOf p k m c rows (Done e v (n + m + 1) (b + c + 8)) after
   either-done k m c rows after h = rw done (refl, h)
 
-  pub step-done : (k form before own bytes : ℕ) (rows after : List ℕ) → own ≡ form_entries form → bytes ≡ form_bytes form
+  pub step-done : (k form before own bytes : ℕ) (rows after : List Row) → own ≡ form_entries form → bytes ≡ form_bytes form
       → after ≡ note_row rows (k + n + own) form (k + n) before → StepOf p k form before rows (Done e v (n + own) (b + bytes)) after
   step-done k form before own bytes rows after i j h = rw (done, ← i, ← j) (refl, h)
 

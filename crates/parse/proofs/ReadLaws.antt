@@ -8,6 +8,7 @@ use borrow.Author.Tests.{eqb-true, eqb-false, ltb-true, ltb-false}
 use lib.Arith.{lt_of_le-ne}
 use lib.Dec.{eqb, ltb}
 use lib.ListN.{length, take, drop, drop_of_length-le, length-drop, length-take, length-append}
+use Rattle.parse.specs.declared.tree.Row.{Row}
 use Rattle.terms.specs.Answer.{number_of, place_of, Refused}
 use Rattle.grammar.specs.When.{Sized}
 use Rattle.paths.specs.Syntax.{Test}
@@ -43,10 +44,10 @@ stops-here s p l e =
       same : (q : ℕ) → q ≤ length s → s ≡ take q s ++ drop p s → q ≡ p
       same q i k = omega (arith, ap length k, length-append (take q s) (drop p s), length-take q s, length-drop p s)
 
-pub read-bad : (s rows : List ℕ) (p : ℕ) → TestParsed false s 0 0 rows (Bad p) rows → Read s rows (stray p) rows
+pub read-bad : (s : List ℕ) (rows : List Row) (p : ℕ) → TestParsed false s 0 0 rows (Bad p) rows → Read s rows (stray p) rows
 read-bad s rows p (m, g) = stops-here s p m (g [])
 
-module _ (s rows after : List ℕ) where
+module _ (s : List ℕ) (rows after : List Row) where
   pub read-over : (e n b : ℕ) (v : Bool) → TestParsed false s 0 0 rows (Done e v n b) after → (e ≡ length s → ⊥) → Read s rows (stray e) after
   read-over e n b v (f, g, t) h =
       stops-here s e f.within (g [] ∙ over v (drop e s) (omega (arith, length-drop e s, lt_of_le-ne f.within h)))
@@ -87,7 +88,7 @@ not-sized s e z = go (eqb (length s) 0) refl e where
 pub tree-size : (s : List ℕ) → (eqb (length s) 0 || ltb text_most (length s)) ≡ true → TreeRead s (stray 0) no_rows
 tree-size s e = (bad-size (not-sized s e), refl)
 
-module _ (s : List ℕ) (z : Sized text_most s) (rows : List ℕ) where
+module _ (s : List ℕ) (z : Sized text_most s) (rows : List Row) where
   -- The rows stay where there is a tree, and are cleared where there is none.
   pub tree-text : (r : Result Counts Stray) → is_err r ≡ false → Read s no_rows r rows → TreeRead s r rows
   tree-text (Ok n) h (t, g, q, i, j, k) = (t, record { sized = z; labels = g; spelt = q }, i, j, k)
@@ -103,7 +104,7 @@ no_place : (s : List ℕ) (t : Test) (p : ℕ) → TextOf s t → TextGets s (Re
 no_place s t p x g = let z = ap number_of (gets-only s g (is-text x)).0 in omega arith
 
 -- Any two results that meet the promise are equal: the outcome, and every number of the rows.
-pub tree-only : (s : List ℕ) (o q : Result Counts Stray) (rows others : List ℕ) → TreeRead s o rows → TreeRead s q others → (o ≡ q) × (rows ≡ others)
+pub tree-only : (s : List ℕ) (o q : Result Counts Stray) (rows others : List Row) → TreeRead s o rows → TreeRead s q others → (o ≡ q) × (rows ≡ others)
 tree-only s (Ok n) (Ok m) rows others (t, x, i, j, h) (u, y, k, l, g) =
     let same : t ≡ u = text-only t u (sym x.spelt ∙ y.spelt) in
     (rw (i, j, k, l, same), h ∙ rw (g, same))

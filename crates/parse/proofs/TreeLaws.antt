@@ -6,6 +6,7 @@ use mathlib.Core.Bool.{Bool, true, false}
 use mathlib.Core.List.{List, [], ◌∷◌, ◌++◌}
 use borrow.Author.Tests.{ne_eqb}
 use lib.ListN.{length, drop}
+use Rattle.parse.specs.declared.tree.Row.{Row}
 use Rattle.terms.specs.Kinds.{row_of}
 use Rattle.terms.specs.declared.kind.Axis.{Axis}
 use Rattle.terms.specs.declared.kind.Axis.TheVariants.{Child as child, Parent as parent, Next as right, Previous as left}
@@ -35,24 +36,24 @@ use Rattle.paths.specs.Answer.{text_most}
 
 -- ---- what a caller needs of a part: its counts are small, it ends within the bytes
 
-module _ (s : List ℕ) (at k : ℕ) (rows : List ℕ) where
-  pub test-small : (w : Bool) (p : Parsed) (after : List ℕ) → length s ≤ text_most → TestParsed w s at k rows p after → Small p
+module _ (s : List ℕ) (at k : ℕ) (rows : List Row) where
+  pub test-small : (w : Bool) (p : Parsed) (after : List Row) → length s ≤ text_most → TestParsed w s at k rows p after → Small p
   test-small w (Done e v n b) after l (f, g, t) = (omega arith, omega arith)
   test-small w (Bad q) after l h = tt
 
-  pub path-small : (p : Parsed) (after : List ℕ) → length s ≤ text_most → PathParsed s at k rows p after → Small p
+  pub path-small : (p : Parsed) (after : List Row) → length s ≤ text_most → PathParsed s at k rows p after → Small p
   path-small (Done e v n b) after l (f, i, g, t) = (omega arith, omega arith)
   path-small (Bad q) after l h = tt
 
-  pub test-ends : (w : Bool) (p : Parsed) (after : List ℕ) → TestParsed w s at k rows p after → Ends s p
+  pub test-ends : (w : Bool) (p : Parsed) (after : List Row) → TestParsed w s at k rows p after → Ends s p
   test-ends w (Done e v n b) after (f, g, t) = f.within
   test-ends w (Bad q) after h = tt
 
-  pub either-ends : (w : Bool) (p r : Parsed) (mid after : List ℕ) (m n b : ℕ) → TestParsed w s at k rows p mid → EitherOf p m n b mid r after → Ends s r
+  pub either-ends : (w : Bool) (p r : Parsed) (mid after : List Row) (m n b : ℕ) → TestParsed w s at k rows p mid → EitherOf p m n b mid r after → Ends s r
   either-ends w (Done e v j c) r mid after m n b (f, g, t) (i, h) = rw i f.within
   either-ends w (Bad q) r mid after m n b x i = rw i tt
 
-  pub shut-small : (w : Bool) (x : List ℕ) (p r : Parsed) (after : List ℕ) → length s ≤ text_most → TestParsed w s at k rows p after → Shut x s p r → Small r
+  pub shut-small : (w : Bool) (x : List ℕ) (p r : Parsed) (after : List Row) → length s ≤ text_most → TestParsed w s at k rows p after → Shut x s p r → Small r
   shut-small w x (Done e v n b) r after l (f, g, t) (Ok q, h, i) = rw i (omega arith, omega arith)
   shut-small w x (Done e v n b) r after l (f, g, t) (Err q, h, i) = rw i tt
   shut-small w x (Bad q) r after l h i = rw i tt
@@ -65,7 +66,7 @@ unfolding leaf_tree leaf_bytes weight_t wordy_t record_length row_of
 leaf-counts zero = (refl, refl, refl, omega arith)
 leaf-counts (suc l) = (refl, refl, refl, omega arith)
 
-pub leaf-law : (w : Bool) (s : List ℕ) (at k e label : ℕ) (rows after : List ℕ) (r : Parsed) → LeafAt w s at e label
+pub leaf-law : (w : Bool) (s : List ℕ) (at k e label : ℕ) (rows after : List Row) (r : Parsed) → LeafAt w s at e label
     → r ≡ Done e true 1 (leaf_bytes label) → after ≡ note_t (leaf_tree label) k rows → TestParsed w s at k rows r after
 leaf-law w s at k e label rows after r x z h =
     let (i, j, q, m) = leaf-counts label in
@@ -77,8 +78,8 @@ leaf-law w s at k e label rows after r x z h =
 
 -- ---- not TEST, <PATH>
 
-module _ (w : Bool) (s : List ℕ) (at k : ℕ) (rows after : List ℕ) (r : Parsed) where
-  pub except-law : (f : ℕ) (p : Parsed) (mid : List ℕ) → BeginsAt w s at (Ok (B.Not f)) → TestParsed true s f k rows p mid → Excepted p k mid r after
+module _ (w : Bool) (s : List ℕ) (at k : ℕ) (rows after : List Row) (r : Parsed) where
+  pub except-law : (f : ℕ) (p : Parsed) (mid : List Row) → BeginsAt w s at (Ok (B.Not f)) → TestParsed true s f k rows p mid → Excepted p k mid r after
       → TestParsed w s at k rows r after
   unfolding ahead pieces_t wordy_t weight_t GoodT record_length row_of note_t
   except-law f (Done e v m b) mid (l, i, q, g) (x, y, t) (z, h) =
@@ -136,12 +137,12 @@ either-text : (w : Bool) (t u : Test) (v : Bool) {s0 s1 s2 s3 s4 : List ℕ} (r 
 either-text w t u v r e0 e1 e2 ev e3 e4 = rw (e0, e1, e2, ev, e3, e4) (or-text w t u r)
 
 -- Both sides noted, and the whole.
-either-noted : (t u : Test) (k n m : ℕ) (rows mid next after : List ℕ) → n ≡ entries_t t → m ≡ entries_t u → mid ≡ note_t t k rows → next ≡ note_t u (k + n) mid
+either-noted : (t u : Test) (k n m : ℕ) (rows mid next after : List Row) → n ≡ entries_t t → m ≡ entries_t u → mid ≡ note_t t k rows → next ≡ note_t u (k + n) mid
     → after ≡ note_row next (k + n + m + 1) 4 (k + n) (k + n + m) → after ≡ note_t (either t u) k rows
 unfolding note_t
 either-noted t u k n m rows mid next after i j a b c = c ∙ rw (b, a, i, j)
 
-module _ (w : Bool) (s : List ℕ) (at k : ℕ) (rows : List ℕ) (h : head_of (drop at s) ≡ 40) where
+module _ (w : Bool) (s : List ℕ) (at k : ℕ) (rows : List Row) (h : head_of (drop at s) ≡ 40) where
   opened : (K : List Expected) → run w (test ∷ K) (drop at s) ≡ run false (test ∷ alternative ∷ test ∷ byte 41 ∷ K) (drop (at + 1) s)
   opened K = let q = (front s at 40 h (omega arith)).1 in rw q (test-opens w K (drop (at + 1) s))
 
@@ -149,7 +150,7 @@ module _ (w : Bool) (s : List ℕ) (at k : ℕ) (rows : List ℕ) (h : head_of (
   pub either_left : (p : ℕ) → TestParsed false s (at + 1) k rows (Bad p) rows → TestParsed w s at k rows (Bad p) rows
   either_left p (m, g) = (m, λ K. opened K ∙ g _)
 
-  module _ (e n b : ℕ) (v : Bool) (mid : List ℕ) (x : TestParsed false s (at + 1) k rows (Done e v n b) mid) where
+  module _ (e n b : ℕ) (v : Bool) (mid : List Row) (x : TestParsed false s (at + 1) k rows (Done e v n b) mid) where
     pub either-word : (p : Stray) → OrAt v s e (Err p) → TestParsed w s at k rows (Bad p.place) rows
     either-word p (m, g) = (m, λ K. opened K ∙ x.1 _ ∙ g _)
 
@@ -159,7 +160,7 @@ module _ (w : Bool) (s : List ℕ) (at k : ℕ) (rows : List ℕ) (h : head_of (
         or-read : (K : List Expected) → run v (alternative ∷ K) (drop e s) ≡ run true K (drop f s)
         or-read K = let q = o.2 in rw q (run-or K v (drop f s))
 
-      either-done : (d j c : ℕ) (u : Bool) (next after : List ℕ) (m r : Parsed) → TestParsed true s f (k + n) mid (Done d u j c) next
+      either-done : (d j c : ℕ) (u : Bool) (next after : List Row) (m r : Parsed) → TestParsed true s f (k + n) mid (Done d u j c) next
           → EitherOf (Done d u j c) (k + n) n b next m after → Shut (41 ∷ []) s (Done d u (j + n + 1) (c + b + 8)) r → TestParsed w s at k rows r after
       unfolding wordy_t weight_t GoodT record_length row_of spelt
       either-done d j c u next after m r (l, g, t) y (Err q, (a, z), i) = rw i (a, λ K. read-or K ∙ g _ ∙ z u K)
@@ -184,7 +185,7 @@ module _ (w : Bool) (s : List ℕ) (at k : ℕ) (rows : List ℕ) (h : head_of (
             },
           )
 
-      pub either-law : (p m r : Parsed) (next after : List ℕ) → TestParsed true s f (k + n) mid p next → EitherOf p (k + n) n b next m after
+      pub either-law : (p m r : Parsed) (next after : List Row) → TestParsed true s f (k + n) mid p next → EitherOf p (k + n) n b next m after
           → Shut (41 ∷ []) s m r → TestParsed w s at k rows r after
       either-law (Bad q) m r next after (l, g) z y = let i : r ≡ Bad q = rw z at y in rw i (l, λ K. read-or K ∙ g _)
       either-law (Done d u j c) m r next after x z y = let i = z.0 in either-done d j c u next after m r x z (rw i at y)
@@ -196,7 +197,7 @@ unfolding head_of run next choices pick ended
 path-stray [] v K h1 h2 = refl
 path-stray (b ∷ l) v K h1 h2 = rw (ne_eqb b 47 h1, ne_eqb b 62 h2)
 
-module _ (s : List ℕ) (at k : ℕ) (rows : List ℕ) where
+module _ (s : List ℕ) (at k : ℕ) (rows : List Row) where
   -- No step so far.
   pub went-none : at ≤ length s → Went s at k rows at 0 0 0 rows
   went-none l =
@@ -215,11 +216,11 @@ module _ (s : List ℕ) (at k : ℕ) (rows : List ℕ) where
         noted = λ p. rw z;
       }
 
-  module _ (from entries bytes before : ℕ) (now : List ℕ) (x : Went s at k rows from entries bytes before now) where
+  module _ (from entries bytes before : ℕ) (now : List Row) (x : Went s at k rows from entries bytes before now) where
     pub path-stops : (p : ℕ) → StepParsed s from (k + entries) before now (Bad p) now → PathParsed s at k rows (Bad p) rows
     path-stops p (l, g) = (l, λ K. x.goes K ∙ g K)
 
-    module _ (e n b : ℕ) (v : Bool) (after : List ℕ) (y : StepParsed s from (k + entries) before now (Done e v n b) after) where
+    module _ (e n b : ℕ) (v : Bool) (after : List Row) (y : StepParsed s from (k + entries) before now (Done e v n b) after) where
       pub path-bad : (head_of (drop e s) ≡ 47 → ⊥) → (head_of (drop e s) ≡ 62 → ⊥) → PathParsed s at k rows (Bad e) rows
       path-bad h1 h2 = (y.0.within, λ K. x.goes K ∙ y.1 K ∙ path-stray (drop e s) v K h1 h2)
 
@@ -292,7 +293,7 @@ unfolding ahead pieces_t sign_byte
 while-text a t r e0 e1 e2 = rw (e0, e1, e2, ahead-test t false (sign closing ∷ sign star ∷ []) r)
 
 -- The table with the test of a step noted, if it has one.
-unfoldable pub note_test : Step → (k : ℕ) → List ℕ → List ℕ
+unfoldable pub note_test : Step → (k : ℕ) → List Row → List Row
 note_test (along x) k rows = rows
 note_test (along* x) k rows = rows
 note_test (passing t) k rows = note_t t k rows
@@ -302,7 +303,7 @@ note_test (while x t) k rows = note_t t k rows
 pub record Own (st : Step) : Type 0 where
   pub entries : weight_s (λ k. 1) st ≡ test_entries st + form_entries (form_of st)
   pub bytes : weight_s record_length st ≡ test_bytes st + form_bytes (form_of st)
-  pub rows : (k before : ℕ) (rows : List ℕ) → note_s st k before rows ≡ step_row st k before (note_test st k rows)
+  pub rows : (k before : ℕ) (rows : List Row) → note_s st k before rows ≡ step_row st k before (note_test st k rows)
 
 pub step-own : (st : Step) → Own st
 unfolding form_entries form_bytes form_of test_entries test_bytes weight_t while_weight neighbour_kind until_kind record_length row_of note_t note_test
@@ -327,7 +328,7 @@ record PlainOwn (behind : Bool) (a : Axis) : Type 0 where
   is_form : plain_form behind a ≡ form_of (plain_step behind a)
   no_entries : 0 ≡ test_entries (plain_step behind a)
   no_bytes : 0 ≡ test_bytes (plain_step behind a)
-  no-rows : (k : ℕ) (rows : List ℕ) → rows ≡ note_test (plain_step behind a) k rows
+  no-rows : (k : ℕ) (rows : List Row) → rows ≡ note_test (plain_step behind a) k rows
 
 plain-own : (behind : Bool) (a : Axis) → PlainOwn behind a
 unfolding wordy_t GoodT form_of test_entries test_bytes note_test
@@ -335,7 +336,7 @@ plain-own true a = record { labels = tt; ends = refl; is_form = refl; no_entries
 plain-own false a = record { labels = tt; ends = refl; is_form = refl; no_entries = refl; no_bytes = refl; no-rows = λ k rows. refl }
 
 -- A step whose test was read: what is known of the text, of the tree and of its test's counts and rows.
-module _ (s : List ℕ) (at k before e n b form : ℕ) (v : Bool) (rows mid after : List ℕ) (r : Parsed) (st : Step) where
+module _ (s : List ℕ) (at k before e n b form : ℕ) (v : Bool) (rows mid after : List Row) (r : Parsed) (st : Step) where
   step-law : at < e → e ≤ length s → at + (n + form_entries form) ≤ e → b ≤ 8 * n → StepReads (drop at s) v (drop e s) → GoodS st → v ≡ wordy_s st
       → drop at s ≡ ahead false (pieces_s st []) (drop e s) → form ≡ form_of st → n ≡ test_entries st → b ≡ test_bytes st → mid ≡ note_test st k rows
       → StepOf (Done e v n b) k form before mid r after → StepParsed s at k before rows r after
@@ -361,8 +362,8 @@ module _ (s : List ℕ) (at k before e n b form : ℕ) (v : Bool) (rows mid afte
         filled f i =
             let last : k + n + form_entries form ≡ k + entries_s st = omega (arith, counted f i) in rw (last, h, f, i)
 
-module _ (s : List ℕ) (at k before : ℕ) (rows : List ℕ) where
-  pub plain-law : (e : ℕ) (v : Bool) (form : ℕ) (r : Parsed) (after : List ℕ) → StartAt s at (Ok (S.Plain e v form)) → StepOf (Done e v 0 0) k form before rows r after
+module _ (s : List ℕ) (at k before : ℕ) (rows : List Row) where
+  pub plain-law : (e : ℕ) (v : Bool) (form : ℕ) (r : Parsed) (after : List Row) → StartAt s at (Ok (S.Plain e v form)) → StepOf (Done e v 0 0) k form before rows r after
       → StepParsed s at k before rows r after
   plain-law e v form r after (l, m, g, p) c =
       let o = plain-own v p.named in
@@ -377,7 +378,7 @@ module _ (s : List ℕ) (at k before : ℕ) (rows : List ℕ) where
   unfolding form_entries
   one-own n e l = omega arith
 
-  pub passing-law : (p r : Parsed) (mid after : List ℕ) → head_of (drop at s) ≡ 63 → TestParsed false s (at + 1) k rows p mid → StepOf p k 5 before mid r after
+  pub passing-law : (p r : Parsed) (mid after : List Row) → head_of (drop at s) ≡ 63 → TestParsed false s (at + 1) k rows p mid → StepOf p k 5 before mid r after
       → StepParsed s at k before rows r after
   unfolding ahead pieces_t wordy_t GoodT sign_byte form_of test_entries test_bytes note_test
   passing-law (Bad q) r mid after h (m, g) z = rw z (m, λ K. asked h K ∙ g _)
@@ -387,7 +388,7 @@ module _ (s : List ℕ) (at k before : ℕ) (rows : List ℕ) where
       (λ K. asked h K ∙ g _) t.labels t.ends (q ∙ ap (◌∷◌ 63) t.reads) refl t.counts t.weighs t.noted z
 
   module _ (f form : ℕ) (x : StartAt s at (Ok (S.While f form))) where
-    pub while-law : (p m r : Parsed) (mid after : List ℕ) → TestParsed false s f k rows p mid → Shut (41 ∷ 42 ∷ []) s p m → StepOf m k form before mid r after
+    pub while-law : (p m r : Parsed) (mid after : List Row) → TestParsed false s f k rows p mid → Shut (41 ∷ 42 ∷ []) s p m → StepOf m k form before mid r after
         → StepParsed s at k before rows r after
     unfolding wordy_t GoodT spelt form_of test_entries test_bytes note_test
     while-law (Bad q) m r mid after (l, g) i z = let e : r ≡ Bad q = rw i at z in rw e (l, λ K. x.2.goes K ∙ g _)

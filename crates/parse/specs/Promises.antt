@@ -2,6 +2,7 @@
 -- What each function promises at a cursor, over every stack below it, and of the tree that it read. Callers of the crate use `TreeRead`
 -- alone; the rest need not be believed.
 -- Laws: proofs/PartLaws.antt, proofs/TreeLaws.antt, proofs/ReadLaws.antt (one result only). Assumes nothing.
+use Rattle.parse.specs.declared.tree.Row.{Row}
 use Rattle.std.specs.Prelude.{ℕ, zero, suc, ◌+◌, ◌*◌, ◌≤◌, ◌<◌, ◌≡◌, Bool, false, List, [], ◌∷◌, length, drop, Result, Ok, Err}
 use Rattle.paths.specs.Syntax.{Test, Path, Step, GoodT, GoodP, GoodS}
 use Rattle.paths.specs.Spelling.{greater, sign, pieces_t, pieces_p, pieces_s, text_of, Text, StopsAt}
@@ -27,7 +28,7 @@ At s at k = (at ≤ length s) × (length s ≤ text_most) × (k ≤ at)
 -- ---- trees
 
 -- The bytes s are the text of a test, and then r; it counts so much, and is noted behind k entries.
-pub record TestIs (w : Bool) (s r : List ℕ) (behind : Bool) (entries bytes k : ℕ) (rows after : List ℕ) : Type 0 where
+pub record TestIs (w : Bool) (s r : List ℕ) (behind : Bool) (entries bytes k : ℕ) (rows after : List Row) : Type 0 where
   pub tree : Test
   pub labels : GoodT tree
   pub ends : behind ≡ wordy_t tree
@@ -37,7 +38,7 @@ pub record TestIs (w : Bool) (s r : List ℕ) (behind : Bool) (entries bytes k :
   pub noted : after ≡ note_t tree k rows
 
 -- .. of a path and its `>`, and then r.
-pub record PathIs (s r : List ℕ) (entries bytes k : ℕ) (rows after : List ℕ) : Type 0 where
+pub record PathIs (s r : List ℕ) (entries bytes k : ℕ) (rows after : List Row) : Type 0 where
   pub tree : Path
   pub labels : GoodP tree
   pub reads : s ≡ ahead false (pieces_p tree (sign greater ∷ [])) r
@@ -46,7 +47,7 @@ pub record PathIs (s r : List ℕ) (entries bytes k : ℕ) (rows after : List �
   pub noted : after ≡ note_p tree k 0 rows
 
 -- .. of a step, and then r; the step before it is in row `before`.
-pub record StepIs (s r : List ℕ) (behind : Bool) (entries bytes k before : ℕ) (rows after : List ℕ) : Type 0 where
+pub record StepIs (s r : List ℕ) (behind : Bool) (entries bytes k before : ℕ) (rows after : List Row) : Type 0 where
   pub tree : Step
   pub labels : GoodS tree
   pub ends : behind ≡ wordy_s tree
@@ -62,24 +63,24 @@ pub record Fits (s : List ℕ) (at end entries bytes : ℕ) : Type 0 where
   pub entries_fit : at + entries ≤ end
   pub bytes_fit : bytes ≤ 8 * entries
 
-abbrev pub TestParsed : (after : Bool) (s : List ℕ) (at k : ℕ) (rows : List ℕ) → Parsed → List ℕ → Type 0
+abbrev pub TestParsed : (after : Bool) (s : List ℕ) (at k : ℕ) (rows : List Row) → Parsed → List Row → Type 0
 TestParsed w s at k rows (Done e v n b) rows' =
     Fits s at e n b × Reads w test (drop at s) v (drop e s) × TestIs w (drop at s) (drop e s) v n b k rows rows'
 TestParsed w s at k rows (Bad p) rows' = (p ≤ length s) × Stops w test (drop at s) (drop p s)
 
-abbrev pub PathParsed : (s : List ℕ) (at k : ℕ) (rows : List ℕ) → Parsed → List ℕ → Type 0
+abbrev pub PathParsed : (s : List ℕ) (at k : ℕ) (rows : List Row) → Parsed → List Row → Type 0
 PathParsed s at k rows (Done e v n b) rows' =
     Fits s at e n b × (v ≡ false) × Reads false path (drop at s) false (drop e s) × PathIs (drop at s) (drop e s) n b k rows rows'
 PathParsed s at k rows (Bad p) rows' = (p ≤ length s) × Stops false path (drop at s) (drop p s)
 
-abbrev pub StepParsed : (s : List ℕ) (at k before : ℕ) (rows : List ℕ) → Parsed → List ℕ → Type 0
+abbrev pub StepParsed : (s : List ℕ) (at k before : ℕ) (rows : List Row) → Parsed → List Row → Type 0
 StepParsed s at k before rows (Done e v n b) rows' =
     Fits s at e n b × StepReads (drop at s) v (drop e s) × StepIs (drop at s) (drop e s) v n b k before rows rows'
 StepParsed s at k before rows (Bad p) rows' = (p ≤ length s) × Stops false path (drop at s) (drop p s)
 
 -- The steps of a path so far: its rest is read from here as the whole would be from its beginning. `whole` puts these steps in front of
 -- a path.
-pub record Went (s : List ℕ) (at k : ℕ) (rows : List ℕ) (from entries bytes before : ℕ) (now : List ℕ) : Type 0 where
+pub record Went (s : List ℕ) (at k : ℕ) (rows : List Row) (from entries bytes before : ℕ) (now : List Row) : Type 0 where
   pub on : at ≤ from
   pub within : from ≤ length s
   pub entries_fit : at + entries ≤ from
@@ -119,15 +120,15 @@ abbrev pub Closing : Parsed → Parsed → Type 0
 Closing (Done e v n b) r = r ≡ Done e v (n + 1) (b + 4)
 Closing (Bad p) r = r ≡ Bad p
 
-abbrev pub Excepted : Parsed → (k : ℕ) (rows : List ℕ) → Parsed → List ℕ → Type 0
+abbrev pub Excepted : Parsed → (k : ℕ) (rows : List Row) → Parsed → List Row → Type 0
 Excepted (Done e v n b) k rows r rows' = (r ≡ Done e v (n + 1) (b + 6)) × (rows' ≡ note_row rows (k + n + 1) 3 (k + n) 0)
 Excepted (Bad p) k rows r rows' = r ≡ Bad p
 
-abbrev pub EitherOf : Parsed → (k n b : ℕ) (rows : List ℕ) → Parsed → List ℕ → Type 0
+abbrev pub EitherOf : Parsed → (k n b : ℕ) (rows : List Row) → Parsed → List Row → Type 0
 EitherOf (Done e v m c) k n b rows r rows' = (r ≡ Done e v (m + n + 1) (c + b + 8)) × (rows' ≡ note_row rows (k + m + 1) 4 k (k + m))
 EitherOf (Bad p) k n b rows r rows' = r ≡ Bad p
 
-abbrev pub StepOf : Parsed → (k form before : ℕ) (rows : List ℕ) → Parsed → List ℕ → Type 0
+abbrev pub StepOf : Parsed → (k form before : ℕ) (rows : List Row) → Parsed → List Row → Type 0
 StepOf (Done e v n b) k form before rows r rows' =
     (r ≡ Done e v (n + form_entries form) (b + form_bytes form)) × (rows' ≡ note_row rows (k + n + form_entries form) form (k + n) before)
 StepOf (Bad p) k form before rows r rows' = r ≡ Bad p
@@ -135,14 +136,14 @@ StepOf (Bad p) k form before rows r rows' = r ≡ Bad p
 -- ---- the text
 
 -- The bytes are the text of a tree, which counts so much and is noted; or they stop being a text at the place.
-abbrev pub Read : (s rows : List ℕ) → Result Counts Stray → List ℕ → Type 0
+abbrev pub Read : (s : List ℕ) (rows : List Row) → Result Counts Stray → List Row → Type 0
 Read s rows (Ok n) rows' =
     (t : Test) × GoodT t × (s ≡ text_of t) × (n.entries ≡ length (table_of t)) × (n.bytes ≡ length (bytes_for t)) × (rows' ≡ note_t t 0 rows)
 Read s rows (Err p) rows' = (Text s → ⊥) × StopsAt s p.place
 
 -- The string has 1 to 1,024 bytes and is the text of a tree: so many entries, so many bytes of rule, and the rows of the tree. Or it gets
 -- 13 at the place, whatever the room, and no row is filled.
-abbrev pub TreeRead : (s : List ℕ) → Result Counts Stray → (rows : List ℕ) → Type 0
+abbrev pub TreeRead : (s : List ℕ) → Result Counts Stray → (rows : List Row) → Type 0
 TreeRead s (Ok n) rows =
     (t : Test) × TextOf s t × (n.entries ≡ length (table_of t)) × (n.bytes ≡ length (bytes_for t)) × (rows ≡ note_t t 0 no_rows)
 TreeRead s (Err p) rows = TextGets s (Refused 13 p.place) [] × (rows ≡ no_rows)

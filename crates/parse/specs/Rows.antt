@@ -16,20 +16,27 @@
 -- Four forms with an axis are child, parent, right, left. A path stands in the row of its last step, from which its steps are followed
 -- to its first, as its entries go; a test <PATH> is its path.
 -- Laws: proofs/HeldLaws.antt. Assumes nothing.
-use Rattle.std.specs.Prelude.{ℕ, ◌+◌, ◌-◌, ◌*◌, ◌≤◌, ◌<◌, ◌≡◌, cond, List, [], ◌∷◌, leb, get_or, replicate}
-use Rattle.std.proofs.lemmas.List.Edits.{sets}
+use Rattle.parse.specs.declared.tree.Row.{Row}
+use Rattle.std.specs.Prelude.{ℕ, ◌+◌, ◌-◌, ◌≤◌, ◌<◌, ◌≡◌, cond, List, leb, get_or, set, replicate}
 use Rattle.paths.specs.Syntax.{Test, everywhere, labelled, except, either, begins, Path, only, ◌then◌, Step, along, along*, passing, while}
 use Rattle.paths.specs.Translation.{neighbour_kind, until_kind}
 use Rattle.paths.proofs.Count.{weight_t, weight_p, weight_s, record_length}
 use Rattle.terms.specs.Limits.{entries_most}
 
--- A table without rows.
-abbrev pub no_rows : List ℕ
-no_rows = replicate (3 * entries_most) 0
+-- A row that is not filled, and a table of these alone.
+abbrev pub no_row : Row
+no_row = record { form = 0; first = 0; second = 0 }
+
+abbrev pub no_rows : List Row
+no_rows = replicate entries_most no_row
+
+-- Row n.
+abbrev pub row_at : List Row → (n : ℕ) → Row
+row_at rows n = get_or rows (n - 1) no_row
 
 -- The table with row n filled, where there is such a row.
-unfoldable pub note_row : List ℕ → (n form a b : ℕ) → List ℕ
-note_row rows n form a b = cond (leb n entries_most) (sets rows (3 * n - 3) (form ∷ a ∷ b ∷ [])) rows
+unfoldable pub note_row : List Row → (n form a b : ℕ) → List Row
+note_row rows n form a b = cond (leb n entries_most) (set rows (n - 1) (record { form = form; first = a; second = b })) rows
 
 -- The form of a step.
 unfoldable pub form_of : Step → ℕ
@@ -62,12 +69,12 @@ test_bytes (passing t) = weight_t record_length t
 test_bytes (while x t) = weight_t record_length t
 
 -- The table with a step's own row filled, behind k entries and those of its test.
-abbrev pub step_row : Step → (k before : ℕ) → List ℕ → List ℕ
+abbrev pub step_row : Step → (k before : ℕ) → List Row → List Row
 step_row st k before rows = note_row rows (k + entries_s st) (form_of st) (k + test_entries st) before
 
 -- The table with a tree noted behind k entries; of a path, the closing "true" among these, and the row of the step before it.
 unfoldable mutual
-  pub note_t : Test → (k : ℕ) → List ℕ → List ℕ
+  pub note_t : Test → (k : ℕ) → List Row → List Row
   note_t everywhere k rows = note_row rows (k + 1) 1 0 0
   note_t (labelled l) k rows = note_row rows (k + 1) 2 l 0
   note_t (except t) k rows = let n = k + entries_t t in note_row (note_t t k rows) (n + 1) 3 n 0
@@ -75,25 +82,25 @@ unfoldable mutual
       let m = k + entries_t t in let n = m + entries_t u in note_row (note_t u m (note_t t k rows)) (n + 1) 4 m n
   note_t (begins p) k rows = note_p p (k + 1) 0 rows
 
-  pub note_p : Path → (k before : ℕ) → List ℕ → List ℕ
+  pub note_p : Path → (k before : ℕ) → List Row → List Row
   note_p (only st) k before rows = note_s st k before rows
   note_p (◌then◌ st p) k before rows = let n = k + entries_s st in note_p p n n (note_s st k before rows)
 
-  pub note_s : Step → (k before : ℕ) → List ℕ → List ℕ
+  pub note_s : Step → (k before : ℕ) → List Row → List Row
   note_s (along x) k before rows = step_row (along x) k before rows
   note_s (along* x) k before rows = step_row (along* x) k before rows
   note_s (passing t) k before rows = step_row (passing t) k before (note_t t k rows)
   note_s (while x t) k before rows = step_row (while x t) k before (note_t t k rows)
 
 -- Row n is there, with these numbers.
-pub record RowHas (rows : List ℕ) (n form a b : ℕ) : Type 0 where
+pub record RowHas (rows : List Row) (n form a b : ℕ) : Type 0 where
   pub there : 1 ≤ n
-  pub is_form : get_or rows (3 * n - 3) 0 ≡ form
-  pub is_a : get_or rows (3 * n - 2) 0 ≡ a
-  pub is_b : get_or rows (3 * n - 1) 0 ≡ b
+  pub is_form : (row_at rows n).form ≡ form
+  pub is_a : (row_at rows n).first ≡ a
+  pub is_b : (row_at rows n).second ≡ b
 
 -- A test stands in row n, and all that it is made of in rows below; of a path and of a step, the step before stands in row b.
-module _ (rows : List ℕ) where
+module _ (rows : List Row) where
   unfoldable mutual
     pub HeldT : Test → ℕ → Type 0
     HeldT everywhere n = RowHas rows n 1 0 0

@@ -16,10 +16,23 @@ use words::words::{Stray, byte_at, fixed_at};
 // How many bytes a text has at most.
 const TEXT_MOST: usize = 1024;
 
-// There is a row for each entry that a rule may have, with three places each.
-const ROWS: u16 = 64;
+// There is a row for each entry that a rule may have.
+pub const ROWS: usize = 64;
 
-pub const ROW_PLACES: usize = 192;
+// A row of the table that a text's tree is noted in: a form, and two numbers that depend on it
+// (specs/Rows.antt). In a row that is not filled all are 0.
+#[derive(Clone, Copy)]
+pub struct Row {
+    pub form: u16,
+    pub first: u16,
+    pub second: u16,
+}
+
+pub const NO_ROW: Row = Row {
+    form: 0,
+    first: 0,
+    second: 0,
+};
 
 // A test, a path or a step: its end, whether a word or number ends there, its entries, its rule's bytes; or
 // the place where it stops. (An enum of its own and no Result: tried as Result<Part, Stop>, 1,024 flat bytes
@@ -41,22 +54,24 @@ pub struct Counts {
 // ---- rows
 
 // Fills row n, where there is such a row: a text with more entries is refused, and its rows are not read.
-fn note_row(rows: &mut [u16; ROW_PLACES], n: u16, form: u16, a: u16, b: u16)
+fn note_row(rows: &mut [Row; ROWS], n: u16, form: u16, a: u16, b: u16)
     requires { 1 ≤ n }
     ensures { rows.new ≡ note_row rows.old n form a b }
 {
+    let n = n as usize;
     if n <= ROWS {
-        let at = 3 * (n as usize) - 3;
-        rows[at] = form;
-        rows[at + 1] = a;
-        rows[at + 2] = b;
+        rows[n - 1] = Row {
+            form: form,
+            first: a,
+            second: b,
+        };
     }
 }
 
 // ---- what is made of a part
 
 // `true` where the label is 0, else `label N`, which ends at e.
-fn leaf(e: usize, label: u16, k: u16, rows: &mut [u16; ROW_PLACES]) -> Parsed
+fn leaf(e: usize, label: u16, k: u16, rows: &mut [Row; ROWS]) -> Parsed
     requires { (e ≤ text_most) × (k ≤ text_most) }
     ensures { (result ≡ Done e true 1 (leaf_bytes label)) × (rows.new ≡ note_t (leaf_tree label) k rows.old) }
 {
@@ -69,7 +84,7 @@ fn leaf(e: usize, label: u16, k: u16, rows: &mut [u16; ROW_PLACES]) -> Parsed
 }
 
 // `not`, and the test p.
-fn except(p: Parsed, k: u16, rows: &mut [u16; ROW_PLACES]) -> Parsed
+fn except(p: Parsed, k: u16, rows: &mut [Row; ROWS]) -> Parsed
     requires { Small p × (k ≤ text_most) }
     ensures { Excepted p k rows.old result rows.new }
 {
@@ -83,7 +98,7 @@ fn except(p: Parsed, k: u16, rows: &mut [u16; ROW_PLACES]) -> Parsed
 }
 
 // `(`, a left with n entries and b bytes that ends with entry k, ` or`, and the right p.
-fn either_of(p: Parsed, k: u16, n: u16, b: u16, rows: &mut [u16; ROW_PLACES]) -> Parsed
+fn either_of(p: Parsed, k: u16, n: u16, b: u16, rows: &mut [Row; ROWS]) -> Parsed
     requires { Small p × (k ≤ text_most) × (n ≤ text_most) × (b ≤ 8192) }
     ensures { EitherOf p k n b rows.old result rows.new }
 {
@@ -98,7 +113,7 @@ fn either_of(p: Parsed, k: u16, n: u16, b: u16, rows: &mut [u16; ROW_PLACES]) ->
 
 // A step of a form, behind k entries. Its test is p, of no entries where it has none; the step before
 // it in its path is in row `before`.
-fn step_of(p: Parsed, k: u16, form: u16, before: u16, rows: &mut [u16; ROW_PLACES]) -> Parsed
+fn step_of(p: Parsed, k: u16, form: u16, before: u16, rows: &mut [Row; ROWS]) -> Parsed
     requires { Small p × (k ≤ text_most) }
     ensures { StepOf p k form before rows.old result rows.new }
 {
@@ -140,7 +155,7 @@ fn shut(s: &[u8], p: Parsed, word: &[u8]) -> Parsed
 // ---- the parsers
 
 #[cycle(either_path_step_test)]
-fn test(s: &[u8], at: usize, after: bool, k: u16, rows: &mut [u16; ROW_PLACES]) -> Parsed
+fn test(s: &[u8], at: usize, after: bool, k: u16, rows: &mut [Row; ROWS]) -> Parsed
     requires { At s.now at k }
     ensures { TestParsed after s.now at k rows.old result rows.new }
 {
@@ -158,7 +173,7 @@ fn test(s: &[u8], at: usize, after: bool, k: u16, rows: &mut [u16; ROW_PLACES]) 
 
 // (TEST or TEST)
 #[cycle(either_path_step_test)]
-fn either(s: &[u8], at: usize, k: u16, rows: &mut [u16; ROW_PLACES]) -> Parsed
+fn either(s: &[u8], at: usize, k: u16, rows: &mut [Row; ROWS]) -> Parsed
     requires { At s.now at k × (head_of (drop at s.now) ≡ 40) }
     ensures { (w : Bool) → TestParsed w s.now at k rows.old result rows.new }
 {
@@ -177,7 +192,7 @@ fn either(s: &[u8], at: usize, k: u16, rows: &mut [u16; ROW_PLACES]) -> Parsed
 // Steps with `/` between them, and `>`. A loop and not a call for each step, so that a long path needs
 // no more stack than a short one.
 #[cycle(either_path_step_test)]
-fn path(s: &[u8], at: usize, k: u16, rows: &mut [u16; ROW_PLACES]) -> Parsed
+fn path(s: &[u8], at: usize, k: u16, rows: &mut [Row; ROWS]) -> Parsed
     requires { At s.now at k }
     ensures { PathParsed s.now at k rows.old result rows.new }
 {
@@ -208,7 +223,7 @@ fn path(s: &[u8], at: usize, k: u16, rows: &mut [u16; ROW_PLACES]) -> Parsed
 }
 
 #[cycle(either_path_step_test)]
-fn step(s: &[u8], at: usize, k: u16, before: u16, rows: &mut [u16; ROW_PLACES]) -> Parsed
+fn step(s: &[u8], at: usize, k: u16, before: u16, rows: &mut [Row; ROWS]) -> Parsed
     requires { At s.now at k }
     ensures { StepParsed s.now at k before rows.old result rows.new }
 {
@@ -229,7 +244,7 @@ fn step(s: &[u8], at: usize, k: u16, before: u16, rows: &mut [u16; ROW_PLACES]) 
 }
 
 // A byte string of 1 to 1,024 bytes, read from its first byte.
-fn read_sized(s: &[u8], rows: &mut [u16; ROW_PLACES]) -> Result<Counts, Stray>
+fn read_sized(s: &[u8], rows: &mut [Row; ROWS]) -> Result<Counts, Stray>
     requires { length s.now ≤ text_most }
     ensures { Read s.now rows.old result rows.new }
 {
@@ -249,16 +264,16 @@ fn read_sized(s: &[u8], rows: &mut [u16; ROW_PLACES]) -> Result<Counts, Stray>
 }
 
 // Reads a byte string as a text, and leaves the rows of its tree, all zero where there is none.
-pub fn read_tree(s: &[u8], rows: &mut [u16; ROW_PLACES]) -> Result<Counts, Stray>
+pub fn read_tree(s: &[u8], rows: &mut [Row; ROWS]) -> Result<Counts, Stray>
     ensures { TreeRead s.now result rows.new }
 {
-    *rows = [0; ROW_PLACES];
+    *rows = [NO_ROW; ROWS];
     if s.is_empty() | (TEXT_MOST < s.len()) {
         return Err(Stray { place: 0 });
     }
     let read = read_sized(s, rows);
     if read.is_err() {
-        *rows = [0; ROW_PLACES];
+        *rows = [NO_ROW; ROWS];
     }
     read
 }

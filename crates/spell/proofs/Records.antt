@@ -19,11 +19,11 @@ use Rattle.spell.proofs.Adding.{one-bytes}
 -- ---- numbers
 
 -- The two bytes of a number, stored.
-pub number-puts : (x : ℕ) (rule : List ℕ) (at : ℕ) → Put (two_bytes x) rule at (at + 2) (set (set rule at (x % 256)) (at + 1) (x / 256))
+pub number-puts : (x : ℕ) (rule : List ℕ) (at low high : ℕ) → low ≡ x % 256 → high ≡ x / 256
+    → Put (two_bytes x) rule at (at + 2) (set (set rule at low) (at + 1) high)
 unfolding two_bytes
-number-puts x rule at =
-    let e : at + 1 + 1 ≡ at + 2 = omega arith in
-    rw (sym e) (put_then (put_one (x % 256) rule at) (put_one (x / 256) (set rule at (x % 256)) (at + 1)))
+number-puts x rule at low high l h =
+    let e : at + 1 + 1 ≡ at + 2 = omega arith in rw (sym e, ← l, ← h) (put_then (put_one low rule at) (put_one high (set rule at low) (at + 1)))
 
 -- A body has no number,
 body-none : (k a b : ℕ) → k ≡ 0 → numbers k a b ≡ []

@@ -1,5 +1,8 @@
 // How much the own entries of a part of a text come to, by its form. Whoever counts a text before
-// anything is written counts by these, and so does the test before they are put.
+// anything is written counts by these, and so does the test before they are put. A form is a number
+// and no enum: up to 13 it is the kind of the part's last entry, 15 to 17 less 8 and less 4 are kinds,
+// and kinds are told apart by ranges (document 01), so an enum would be turned into its number wherever
+// it is used.
 ghost use Rattle.std.specs.Prelude.{◌≡◌};
 ghost use Rattle.spell.specs.Forms.{form_entries, form_bytes};
 

@@ -1,5 +1,5 @@
 // The own entries of one part of a text, by its form, behind what is written.
-ghost use Rattle.std.specs.Prelude.{◌≡◌, ◌-◌, ◌≤◌};
+ghost use Rattle.std.specs.Prelude.{◌≡◌, ◌≤◌};
 ghost use Rattle.terms.specs.Limits.{entries_most};
 ghost use Rattle.spell.specs.Forms.{own_entries};
 ghost use Rattle.spell.specs.Promises.{written, part_fits, RoomFor, Spelt, PartPut};
@@ -20,13 +20,6 @@ pub struct Written {
     pub bytes: usize,
 }
 
-// How many bytes of the buffer are left.
-fn left(room: usize, used: usize) -> usize
-    ensures { result ≡ room - used }
-{
-    if room < used { 0 } else { room - used }
-}
-
 // The one test before a part is put: its form is one of the table's; from "not" on a form names
 // entries, so that one is written; and there are entries and bytes left for its own.
 fn fits(room: usize, entries: u16, bytes: usize, form: u16) -> bool
@@ -36,7 +29,7 @@ fn fits(room: usize, entries: u16, bytes: usize, form: u16) -> bool
         & (form <= FORMS)
         & ((form <= 2) | (1 <= entries))
         & (entries as usize + own_entries(form) as usize <= ENTRIES_MOST)
-        & (own_bytes(form) as usize <= left(room, bytes))
+        & (own_bytes(form) as usize <= room.saturating_sub(bytes))
 }
 
 // The own entries behind n, where they fit. The record of a form up to 9 is of that kind, and has as
@@ -54,7 +47,8 @@ fn put_own(rule: &mut [u8], at: usize, n: u16, form: u16, argument: u16) -> usiz
 }
 
 // Puts a part's own entries behind what is written, and answers what is written then. Where they do
-// not fit, nothing is put.
+// not fit, nothing is put. (What is written comes as two numbers and no `Written`: as a whole it would be
+// copied right after its fields were stored, and the processor waits for that.)
 pub fn put_part(rule: &mut [u8], entries: u16, bytes: usize, form: u16, argument: u16) -> Written
     ensures { PartPut form argument rule.old (written entries bytes) rule.new result }
 {
@@ -65,8 +59,5 @@ pub fn put_part(rule: &mut [u8], entries: u16, bytes: usize, form: u16, argument
             bytes: end,
         };
     }
-    Written {
-        entries: entries,
-        bytes: bytes,
-    }
+    Written { entries, bytes }
 }

@@ -12,7 +12,7 @@ use terms::kind::row_of;
 pub fn last(entries: u16) -> u16
     ensures { result ≡ pred entries }
 {
-    if entries == 0 { 0 } else { entries - 1 }
+    entries.saturating_sub(1)
 }
 
 // A number, the low byte first.
@@ -20,8 +20,9 @@ fn put_number(rule: &mut [u8], at: usize, x: u16) -> usize
     requires { at + 2 ≤ length rule.old }
     ensures { Put (two_bytes x) rule.old at result rule.new }
 {
-    rule[at] = (x % 256) as u8;
-    rule[at + 1] = (x / 256) as u8;
+    let [low, high] = x.to_le_bytes();
+    rule[at] = low;
+    rule[at + 1] = high;
     at + 2
 }
 

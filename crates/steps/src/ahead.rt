@@ -6,7 +6,8 @@ ghost use Rattle.steps.specs.Steps.{own_step, given_step};
 use crate::word::bit_in;
 
 // What is asked by turns of the elements ahead: a mark at the end of a way (kinds 10 and 12), at every
-// one of at least one (14).
+// one of at least one (14). Data and no closure, since two closures would have to share a law over what
+// they answer; the compiler makes a loop of each.
 #[derive(Clone, Copy)]
 pub enum AskedAhead {
     Until,

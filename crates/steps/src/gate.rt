@@ -1,6 +1,6 @@
 // Kinds 1, 3, 4 and 5: what they make of two bits of an element's word is a gate, an and, with the first
 // bit, the second and the outcome each inverted or not. So an entry's loop has no branch, and takes
-// several elements at once.
+// several elements at once. A gate is data and no closure: one loop and one law serve all four.
 ghost use Rattle.std.specs.Prelude.{◌≡◌};
 ghost use Rattle.steps.specs.Steps.{gate_mark, always_gate, not_gate, or_gate, and_gate};
 
@@ -34,7 +34,7 @@ pub fn not_gate(a: usize) -> Gate
     ensures { result ≡ not_gate a }
 {
     Gate {
-        a: a,
+        a,
         b: a,
         first: true,
         second: true,
@@ -47,8 +47,8 @@ pub fn or_gate(a: usize, b: usize) -> Gate
     ensures { result ≡ or_gate a b }
 {
     Gate {
-        a: a,
-        b: b,
+        a,
+        b,
         first: true,
         second: true,
         outcome: true,
@@ -60,8 +60,8 @@ pub fn and_gate(a: usize, b: usize) -> Gate
     ensures { result ≡ and_gate a b }
 {
     Gate {
-        a: a,
-        b: b,
+        a,
+        b,
         first: false,
         second: false,
         outcome: false,

@@ -9,6 +9,7 @@ use mathlib.Core.List.{List, [], ◌∷◌, ◌++◌}
 use mathlib.Core.Logic.{◌⊎◌, inl, inr, ⊎_elim, ◌↔◌}
 use lib.Dec.{leb}
 use lib.ListN.{length, length-append}
+use Rattle.parse.specs.declared.tree.Row.{Row}
 use Rattle.numbers.specs.Lists.{over}
 use Rattle.numbers.proofs.Lists.{over_none}
 use Rattle.terms.specs.Answer.{Answer, Accepted, Refused}
@@ -65,16 +66,10 @@ module _ (text rule : List ℕ) where
   typed-refused {a} {es} number place g e q =
       record { answer = a; entries = es; gets = g; reply_is = rw e q; buffer = rw e (sym (over_none rule)) }
 
-  pub place-small : (rows : List ℕ) (p : Stray) → TreeRead text (Err p) rows → p.place ≤ text_most
-  place-small rows p y = go y.0 where
-    go : {q : ℕ} {es : List Entry} → TextGets text (Refused 13 q) es → q ≤ text_most
-    go (bad-size h) = omega arith
-    go (no_text z h k) = omega (arith, z.few, k.within)
-
-  pub typed-stopped : (rows : List ℕ) (p : Stray) (r : PathReply) → TreeRead text (Err p) rows → r ≡ path_reply (Refused 13 p.place) [] → Typed text rule r rule
+  pub typed-stopped : (rows : List Row) (p : Stray) (r : PathReply) → TreeRead text (Err p) rows → r ≡ path_reply (Refused 13 p.place) [] → Typed text rule r rule
   typed-stopped rows p r y q = typed-refused 13 p.place y.0 (outcome-refused 13 p.place [] (length rule)) q
 
-  module _ (rows : List ℕ) (n : Counts) (whole : TreeRead text (Ok n) rows) where
+  module _ (rows : List Row) (n : Counts) (whole : TreeRead text (Ok n) rows) where
     pub typed-many : (r : PathReply) → entries_most < n.entries → r ≡ path_reply (Refused 14 0) [] → Typed text rule r rule
     typed-many r l q =
         let (t, y, i, j, h) = whole in typed-refused 14 0 (is-text y) (outcome-many _ (table_of t) (length rule) (omega arith)) q

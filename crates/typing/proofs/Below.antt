@@ -9,9 +9,9 @@ use Rattle.terms.specs.declared.kind.Axis.TheVariants.{Child as child, Parent as
 use Rattle.paths.specs.Syntax.{Test, everywhere, labelled, except, either, begins, Path, only, ◌then◌, Step, along, along*, passing, while}
 use Rattle.paths.specs.Translation.{neighbour_kind, until_kind, put_t, put_p, put_s}
 use Rattle.spell.specs.Filled.{part_entries}
-use Rattle.parse.specs.Rows.{form_of, RowHas, HeldT, HeldP, HeldS}
-use Rattle.typing.specs.declared.part.Part.{Part}
-use Rattle.typing.specs.Writing.{part_at, put_steps, HeldSteps}
+use Rattle.parse.specs.Rows.{row_at, form_of, RowHas, HeldT, HeldP, HeldS}
+use Rattle.parse.specs.declared.tree.Row.{Row}
+use Rattle.typing.specs.Writing.{put_steps, HeldSteps}
 use Rattle.typing.proofs.Trees.{last_plain, last_tested, true-puts, label-puts, not-puts, or_puts, path-puts, along-puts, along*-puts, passing-puts, while-puts, turned}
 use Rattle.terms.specs.Limits.{entries_most}
 
@@ -35,11 +35,11 @@ star-form left = (omega arith, omega arith)
 abbrev pub OfStep : (form : ℕ) → Type 0
 OfStep form = (2 < form) × (form ≡ 3 → ⊥) × (form ≡ 4 → ⊥)
 
-module _ (rows : List ℕ) where
+module _ (rows : List Row) where
   -- ---- the row
 
   -- The row of a step is there, its form is 5 or more, and its second number is the row of the step before.
-  pub step-row : (st : Step) (n b : ℕ) → HeldS rows st n b → (1 ≤ n) × (5 ≤ (part_at rows n).form) × ((part_at rows n).second ≡ b)
+  pub step-row : (st : Step) (n b : ℕ) → HeldS rows st n b → (1 ≤ n) × (5 ≤ (row_at rows n).form) × ((row_at rows n).second ≡ b)
   unfolding HeldT form_of
   step-row (along x) n b (a, r) = (r.there, omega (arith, r.is_form, (axis-form x).0), r.is_b)
   step-row (along* x) n b (a, r) = (r.there, omega (arith, r.is_form, (star-form x).0), r.is_b)
@@ -47,7 +47,7 @@ module _ (rows : List ℕ) where
   step-row (while y t) n b (a, l, r, x) = (r.there, omega (arith, r.is_form, (axis-form y).0), r.is_b)
 
   -- The row of a path is that of its last step: it is there, and its form is 5 or more.
-  path-row : (p : Path) (n b : ℕ) → HeldP rows p n b → (1 ≤ n) × (5 ≤ (part_at rows n).form)
+  path-row : (p : Path) (n b : ℕ) → HeldP rows p n b → (1 ≤ n) × (5 ≤ (row_at rows n).form)
   unfolding HeldT
   path-row (only st) n b x = let r = step-row st n b x in (r.0, r.1)
   path-row (◌then◌ st p) n b (m, l, x, y) = path-row p n m y
@@ -64,17 +64,17 @@ module _ (rows : List ℕ) where
 -- ---- the test in a row that was read
 
 -- Row n says this.
-pub record Says (rows : List ℕ) (n : ℕ) (p : Part) : Type 0 where
-  pub part_is : p ≡ part_at rows n
+pub record Says (rows : List Row) (n : ℕ) (p : Row) : Type 0 where
+  pub row_is : p ≡ row_at rows n
 
-module _ {rows : List ℕ} {n : ℕ} {p : Part} (s : Says rows n p) where
+module _ {rows : List Row} {n : ℕ} {p : Row} (s : Says rows n p) where
   -- A row is read as it was noted.
   read : {form a b : ℕ} → RowHas rows n form a b → (p.form ≡ form) × (p.first ≡ a) × (p.second ≡ b)
-  read r = rw s.part_is (r.is_form, r.is_a, r.is_b)
+  read r = rw s.row_is (r.is_form, r.is_a, r.is_b)
 
   -- A path's form is that of a step.
   path-form : (q : Path) → HeldP rows q n 0 → 5 ≤ p.form
-  path-form q x = rw s.part_is (path-row rows q n 0 x).1
+  path-form q x = rw s.row_is (path-row rows q n 0 x).1
 
   -- In a row of form 1 or 2 stands true or a label, which is its first number,
   pub leaf-is : (t : Test) → HeldT rows t n → p.form ≤ 2
@@ -121,7 +121,7 @@ module _ {rows : List ℕ} {n : ℕ} {p : Part} (s : Says rows n p) where
 
   -- The second number of a step's row is the row of the step before.
   pub before-is : (st : Step) (b : ℕ) → HeldS rows st n b → p.second ≡ b
-  before-is st b x = rw s.part_is (step-row rows st n b x).2
+  before-is st b x = rw s.row_is (step-row rows st n b x).2
 
   -- Where the form is 6 to 13, it is AXIS or AXIS*,
   pub plain-is : (st : Step) (b : ℕ) → HeldS rows st n b → 6 ≤ p.form → p.form < 14 → (es : List Entry) → put_s st es ≡ last_plain p.form es
@@ -144,7 +144,7 @@ module _ {rows : List ℕ} {n : ℕ} {p : Part} (s : Says rows n p) where
 
 -- ---- the steps of a path, from last to first
 
-module _ (rows : List ℕ) where
+module _ (rows : List Row) where
   -- The steps of a path that is held, and behind them those before it, are held from its last step on.
   pub turned-held : (p : Path) (before : List Step) (n b : ℕ) → n ≤ entries_most → HeldP rows p n b → HeldSteps rows before b
       → HeldSteps rows (turned p before) n

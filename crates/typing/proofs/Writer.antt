@@ -14,7 +14,7 @@ use Rattle.spell.specs.Filled.{part_entries, Asks, Puts}
 use Rattle.spell.proofs.Changes.{last_in, asks-as, puts-as, asks-few, asks-last, puts-last, asks-first, asks-second, puts-both}
 use Rattle.spell.proofs.PartLaws.{part-grows, part-puts}
 use Rattle.parse.specs.Rows.{HeldT}
-use Rattle.typing.specs.declared.part.Part.{Part}
+use Rattle.parse.specs.declared.tree.Row.{Row}
 use Rattle.typing.specs.Writing.{put_steps, HeldSteps, TestAsks, TestPuts, StepAsks, StepPuts, StepsAsk, StepsPut}
 use Rattle.typing.proofs.Trees.{last_plain, last_tested, plain-grows, tested-grows, test-grows, path-grows, steps-grow, turned, turned-puts}
 use Rattle.typing.proofs.Below.{OfStep, Says, leaf-is, not_is, or_is, path-is, before-is, plain-is, tested-is, turned-held, none_before, steps-is, steps-row}
@@ -25,7 +25,7 @@ todo entries n = 256 * (entries_most - entries) + 3 * n
 
 -- ---- a test
 
-module _ {rows : List ℕ} {n : ℕ} {p : Part} (s : Says rows n p) {rule : List ℕ} {w : Written} where
+module _ {rows : List Row} {n : ℕ} {p : Row} (s : Says rows n p) {rule : List ℕ} {w : Written} where
   -- true and label N: there is room for the entry, so once the part is put, the test is.
   pub leaf-put : {rule₁ : List ℕ} {w₁ : Written} → TestAsks rows n rule w → p.form ≤ 2 → PartPut p.form p.first rule w rule₁ w₁
       → TestPuts rows n rule w rule₁ w₁
@@ -147,13 +147,13 @@ module _ {rows : List ℕ} {n : ℕ} {p : Part} (s : Says rows n p) {rule : List
 -- ---- a step and those before it
 
 -- There is room for the step,
-pub steps_first : (rows : List ℕ) (n : ℕ) {rule : List ℕ} {w : Written} → 1 ≤ n → StepsAsk rows n rule w → (n ≤ entries_most) × StepAsks rows n rule w
+pub steps_first : (rows : List Row) (n : ℕ) {rule : List ℕ} {w : Written} → 1 ≤ n → StepsAsk rows n rule w → (n ≤ entries_most) × StepAsks rows n rule w
 steps_first rows n l (sts, x, a) =
     let i = steps-is rows sts n l x in
     let b = asks-first (λ k. put_s i.0) (λ k. put_steps i.2) refl (λ k. steps-grow i.2) (asks-as i.6 a) in
     (i.3, (i.0, i.1, i.4, b))
 
-module _ {rows : List ℕ} {n : ℕ} {p : Part} (s : Says rows n p) (l : 1 ≤ n)
+module _ {rows : List Row} {n : ℕ} {p : Row} (s : Says rows n p) (l : 1 ≤ n)
     {rule rule₁ : List ℕ} {w w₁ : Written} (q : StepPuts rows n rule w rule₁ w₁) where
   -- once it is put, for those before it: it put an entry, and none past 64,
   steps-second : StepsAsk rows n rule w → (w.entries < w₁.entries) × (w₁.entries ≤ entries_most) × (p.second ≤ entries_most) × StepsAsk rows p.second rule₁ w₁
@@ -180,7 +180,7 @@ module _ {rows : List ℕ} {n : ℕ} {p : Part} (s : Says rows n p) (l : 1 ≤ n
 -- ---- a path's steps, one after the other
 
 -- From row n on, steps have been put; the next is in row `row`. There is room for it and those before it, and once they are put, all are.
-pub record Along (rows : List ℕ) (n : ℕ) (rule : List ℕ) (w : Written) (row : ℕ) (rule₁ : List ℕ) (w₁ : Written) : Type 0 where
+pub record Along (rows : List Row) (n : ℕ) (rule : List ℕ) (w : Written) (row : ℕ) (rule₁ : List ℕ) (w₁ : Written) : Type 0 where
   pub some : 1 ≤ row
   pub begun : 1 ≤ w₁.entries
   pub as_long : length rule₁ ≡ length rule
@@ -188,12 +188,12 @@ pub record Along (rows : List ℕ) (n : ℕ) (rule : List ℕ) (w : Written) (ro
   pub asks : StepsAsk rows row rule₁ w₁
   pub whole : (rule₂ : List ℕ) (w₂ : Written) → StepsPut rows row rule₁ w₁ rule₂ w₂ → StepsPut rows n rule w rule₂ w₂
 
-pub along-none : (rows : List ℕ) (n : ℕ) (rule : List ℕ) (w : Written) → 1 ≤ n → 1 ≤ w.entries → StepsAsk rows n rule w → Along rows n rule w n rule w
+pub along-none : (rows : List Row) (n : ℕ) (rule : List ℕ) (w : Written) → 1 ≤ n → 1 ≤ w.entries → StepsAsk rows n rule w → Along rows n rule w n rule w
 along-none rows n rule w l m a =
     record { some = l; begun = m; as_long = refl; less_to_do = omega arith; asks = a; whole = λ rule₂ w₂ r. r }
 
-module _ {rows : List ℕ} {n row : ℕ} {rule rule₁ rule₂ : List ℕ} {w w₁ w₂ : Written} (a : Along rows n rule w row rule₁ w₁)
-    {p : Part} (s : Says rows row p) (q : StepPuts rows row rule₁ w₁ rule₂ w₂) where
+module _ {rows : List Row} {n row : ℕ} {rule rule₁ rule₂ : List ℕ} {w w₁ w₂ : Written} (a : Along rows n rule w row rule₁ w₁)
+    {p : Row} (s : Says rows row p) (q : StepPuts rows row rule₁ w₁ rule₂ w₂) where
   -- The first step of the path is put: all are.
   pub along-last : p.second ≡ 0 → StepsPut rows n rule w rule₂ w₂
   along-last h = a.whole rule₂ w₂ (steps-last s a.some q h)

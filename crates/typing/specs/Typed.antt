@@ -3,18 +3,24 @@
 -- the lent buffer.
 -- Shuts out: a refused text that writes; a byte past the rule changed; a count that is not that of the bytes.
 -- Laws: proofs/Answered.antt (one result only; each number exactly when). Assumes nothing.
-use Rattle.std.specs.Prelude.{ℕ, ◌≡◌, List, length}
+use Rattle.std.specs.Prelude.{ℕ, ◌≡◌, List, length, Result, Ok, Err}
 use Rattle.numbers.specs.Lists.{over}
-use Rattle.terms.specs.Answer.{number_of, place_of, where_accepted, Answer}
+use Rattle.terms.specs.Answer.{number_of, place_of, where_accepted, number_of_fault, Answer}
 use Rattle.entry.specs.declared.entry.Entry.{Entry}
 use Rattle.grammar.specs.Rules.{rule_bytes}
 use Rattle.paths.specs.Answer.{TextGets, path_outcome, bytes_given}
+use Rattle.terms.specs.declared.refusal.Refusal.{Refusal}
 use Rattle.typing.specs.declared.export.PathReply.{PathReply}
 
 -- What an outcome comes to, as plain numbers: its number and place, and how many of the rule's bytes are written, none where it is a
 -- refusal.
 abbrev pub path_reply : Answer → (bytes : List ℕ) → PathReply
 path_reply a bytes = record { number = number_of a; place = place_of a; written = length (where_accepted a bytes) }
+
+-- What so many bytes written, or a refusal, comes to.
+abbrev pub reply_of : Result ℕ Refusal → PathReply
+reply_of (Ok n) = record { number = 0; place = 0; written = n }
+reply_of (Err e) = record { number = number_of_fault e.fault; place = e.place; written = 0 }
 
 -- The string gets an answer as a text, with entries. The reply is what that comes to, the buffer being the room; and the bytes that are
 -- given stand at the front of the buffer, and every byte past them is as it was.

@@ -1,11 +1,13 @@
 // The call as C has it; include/polonezar.h declares it.
-ghost use Rattle.std.specs.Prelude.{◌≡◌, []};
-ghost use Rattle.terms.specs.Answer.{Refused};
-ghost use Rattle.typing.specs.Typed.{path_reply, Typed};
+ghost use Rattle.std.specs.Prelude.{◌≤◌, MatchResult};
+ghost use Rattle.terms.specs.Limits.{rule_most};
+ghost use Rattle.paths.specs.Answer.{text_most};
+ghost use Rattle.typing.specs.Typed.{reply_of, Typed};
 
 use crate::write::write_rule;
-use parse::tree::{ROW_PLACES, read_tree};
+use parse::tree::{NO_ROW, ROWS, read_tree};
 use terms::limits::ENTRIES_MOST;
+use terms::refusal::{Fault, Refusal};
 
 // What the call answers: the number, the place, and how many bytes it wrote.
 #[repr(C)]
@@ -16,40 +18,43 @@ pub struct PathReply {
     pub written: u32,
 }
 
-// Nothing is written.
-fn refused(number: u32, place: u32) -> PathReply
-    ensures { result ≡ path_reply (Refused number place) [] }
+// Reads a typed rule and writes the bytes of its rule: how many these are. The whole text has been
+// read, and its entries and bytes are counted, before the first byte is written.
+fn read_path(text: &[u8], rule: &mut [u8]) -> Result<usize, Refusal>
+    ensures typed { Typed text.now rule.old (reply_of result) rule.new }
+    ensures small { MatchResult result (λ written. written ≤ rule_most) (λ refusal. refusal.place ≤ text_most) }
 {
-    PathReply {
-        number: number,
-        place: place,
-        written: 0,
+    let mut rows = [NO_ROW; ROWS];
+    let counts = match read_tree(text, &mut rows) {
+        Ok(counts) => counts,
+        Err(e) => return Err(Fault::Text.at(e.place)),
+    };
+    let too_many = ENTRIES_MOST < counts.entries;
+    if too_many {
+        return Err(Fault::TextEntries.at(0));
     }
+    if rule.len() < counts.bytes {
+        return Err(Fault::Room.at(0));
+    }
+    write_rule(&rows, counts.entries, rule);
+    Ok(counts.bytes)
 }
 
-// Reads a typed rule and writes the bytes of its rule. The whole text has been read, and its entries
-// and bytes are counted, before the first byte is written.
+// Reads a typed rule and writes the bytes of its rule.
 #[unsafe(no_mangle)]
 pub extern "C" fn pz_read_path(text: &[u8], rule: &mut [u8]) -> PathReply
     ensures { Typed text.now rule.old result rule.new }
 {
-    let mut rows = [0u16; ROW_PLACES];
-    match read_tree(text, &mut rows) {
-        Err(e) => refused(13, e.place as u32),
-        Ok(counts) => {
-            let too_many = ENTRIES_MOST < counts.entries;
-            if too_many {
-                return refused(14, 0);
-            }
-            if rule.len() < counts.bytes {
-                return refused(9, 0);
-            }
-            write_rule(&rows, counts.entries, rule);
-            PathReply {
-                number: 0,
-                place: 0,
-                written: counts.bytes as u32,
-            }
-        }
+    match read_path(text, rule) {
+        Ok(written) => PathReply {
+            number: 0,
+            place: 0,
+            written: written as u32,
+        },
+        Err(refusal) => PathReply {
+            number: refusal.fault.into(),
+            place: refusal.place as u32,
+            written: 0,
+        },
     }
 }

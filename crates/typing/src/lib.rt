@@ -3,5 +3,4 @@
 #![tactic(auto)]
 
 pub mod export;
-mod part;
 mod write;

@@ -1,8 +1,6 @@
 -- `count_with_bit`: the words passed are counted. Assumes nothing.
 use native.Mathlib.Omega.{arith}
-use mathlib.Core.Path.{◌≡◌, refl, ◌∙◌}
-use lib.ListN.{length}
-use lib.Seq.{take-length}
+use mathlib.Core.Path.{refl}
 use Rattle.numbers.specs.Bits.{in_word, have_bit}
 use Rattle.numbers.proofs.BitLaws.{bit-small, have_bit-first, have_bit-next}
 use Rattle.buffer.proofs.count.count_with_bit.Goals as goal
@@ -22,8 +20,3 @@ loop-w-preserved c =
     let p = c.args in
     let l = c.loop-w in
     rw c.bit_in.ensures (have_bit-next (in_word p.i) l.w-index p.words.now (omega arith) l.invariant)
-
-pub returns : goal.returns
-returns c =
-    let e : c.loop-w.w-index ≡ length c.args.words.now = omega arith in
-    c.loop-w.invariant ∙ rw (e, take-length)

@@ -5,4 +5,4 @@ use Rattle.marking.proofs.AheadLaws.{given_by}
 use Rattle.marking.proofs.ahead.gather_pass.Given as goal
 
 abbrev pub invariant-loop-s : goal.invariant-loop-s
-invariant-loop-s l = Passed (length l.f) l.i (given_by l.f l.initial.marks l.a l.s) l.initial.marks l.marks
+invariant-loop-s l = Passed (length l.column.numbers.now) l.i (given_by l.column.numbers.now l.initial.marks l.a l.s) l.initial.marks l.marks

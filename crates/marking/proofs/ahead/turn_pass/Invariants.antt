@@ -3,4 +3,4 @@ use Rattle.marking.proofs.AheadLaws.{AheadMid}
 use Rattle.marking.proofs.ahead.turn_pass.Given as goal
 
 abbrev pub invariant-loop-t : goal.invariant-loop-t
-invariant-loop-t l = AheadMid l.asked l.f l.initial.marks l.a l.b l.i l.marks l.next l.t
+invariant-loop-t l = AheadMid l.way l.column.numbers.now l.initial.marks l.a l.b l.i l.marks l.next l.t

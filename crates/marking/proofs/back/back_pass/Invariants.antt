@@ -9,4 +9,4 @@ use Rattle.marking.proofs.back.back_pass.Given as goal
 
 abbrev pub invariant-loop-s : goal.invariant-loop-s
 invariant-loop-s l =
-    Passed (length l.f) l.i (before-only (along_mark l.until backward (length l.f) (leads l.f) (bits_of l.initial.marks l.a) (bits_of l.initial.marks l.b)) l.s) l.initial.marks l.marks
+    Passed (length l.column.numbers.now) l.i (before-only (along_mark l.until backward (length l.column.numbers.now) (leads l.column.numbers.now) (bits_of l.initial.marks l.a) (bits_of l.initial.marks l.b)) l.s) l.initial.marks l.marks

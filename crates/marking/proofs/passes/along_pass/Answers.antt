@@ -6,7 +6,7 @@ use Rattle.marking.proofs.passes.along_pass.Goals as goal
 
 pub turn_pass-requires : goal.turn_pass-requires
 unfolding Nearest
-turn_pass-requires c = let p = c.requires in record { earlier = p.earlier; room = p.room; not_past = p.not_past; nearest = tt }
+turn_pass-requires c = record { room = c.requires; nearest = tt }
 
 pub returns-then-leads_back : goal.returns-then-leads_back
 unfolding direction

@@ -4,7 +4,7 @@ use Rattle.marking.proofs.KindLaws.{words-start, words-room, entry_fits, entry-t
 use Rattle.marking.proofs.passes.mark_entries.Goals as goal
 
 pub loop-i-init : goal.loop-i-init
-loop-i-init c = λ levels columns. words-start levels c.args.labels.now _ (rw columns.long at c.requires.room)
+loop-i-init c = λ levels columns. words-start levels c.args.elements.labels.now _ (rw columns.long at c.requires.room)
 
 pub mark_entry-requires : goal.mark_entry-requires
 mark_entry-requires c =
@@ -15,7 +15,7 @@ mark_entry-requires c =
     rw (c.wide-b.ensures.0, c.wide-a.ensures.0, row)
     record {
       earlier = entry_fits p.entries.now q.rule_entries l.i c.loop-i-test.true;
-      room = words-room q.columns.0 p.labels.now _ q.columns.1 q.room (omega (arith, q.rule_entries.few)) (l.invariant q.columns.0 q.columns.1);
+      room = words-room q.columns.0 p.elements.labels.now _ q.columns.1 q.room (omega (arith, q.rule_entries.few)) (l.invariant q.columns.0 q.columns.1);
       columns = q.columns;
     }
 
@@ -26,10 +26,10 @@ loop-i-preserved c =
     let q = c.requires in
     let row = rw c.wide.ensures.0 at c.row_of-row.ensures in
     let e = rw (c.wide-b.ensures.0, c.wide-a.ensures.0, row) at c.mark_entry.ensures in
-    λ levels columns. entry-turn levels p.labels.now p.entries.now q.rule_entries l.i c.loop-i-test.true (l.invariant levels columns) (e levels columns)
+    λ levels columns. entry-turn levels p.elements.labels.now p.entries.now q.rule_entries l.i c.loop-i-test.true (l.invariant levels columns) (e levels columns)
 
 pub returns : goal.returns
 returns c =
     let l = c.loop-i in
     let p = c.args in
-    λ levels columns. words-end p.entries.now c.requires.rule_entries levels p.labels.now l.i (omega arith) (l.invariant levels columns)
+    λ levels columns. words-end p.entries.now c.requires.rule_entries levels p.elements.labels.now l.i (omega arith) (l.invariant levels columns)

@@ -8,4 +8,5 @@ pub bounds-rule-at-2 : goal.bounds-rule-at-2
 bounds-rule-at-2 c = rw length-set (omega arith)
 
 pub returns : goal.returns
-returns c = number-puts c.args.x c.args.rule.now c.args.at
+returns c =
+    number-puts c.args.x c.args.rule.now c.args.at _ _ (rw c.to_le_bytes.ensures (omega arith)) (rw c.to_le_bytes.ensures (omega arith))
