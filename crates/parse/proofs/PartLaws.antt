@@ -11,11 +11,10 @@ use Rattle.std.specs.Prelude.{Result, Ok, Err}
 use Rattle.words.specs.declared.words.Stray.{Stray}
 use Rattle.parse.specs.declared.tree.Parsed.{Parsed}
 use Rattle.parse.specs.declared.tree.Parsed.TheVariants.{Done, Bad}
-use Rattle.spell.specs.Forms.{form_entries, form_bytes}
 use Rattle.words.specs.Begins.{leaf_tree}
 use Rattle.words.proofs.Reading.{WordAt}
 use Rattle.parse.specs.Rows.{note_row, note_t}
-use Rattle.parse.specs.Promises.{leaf_bytes, Small, Shut, Closing, Excepted, EitherOf, StepOf}
+use Rattle.parse.specs.Promises.{leaf_bytes, Small, Shut}
 use Rattle.terms.specs.Limits.{entries_most}
 use Rattle.paths.specs.Answer.{text_most}
 
@@ -48,37 +47,7 @@ unfolding leaf_bytes leaf_tree note_t
 leaf-label e zero k rows after z h = absurd (z refl)
 leaf-label e (suc l) k rows after z h = (refl, h)
 
-module _ (p : Parsed) (q : ℕ) (bad : p ≡ Bad q) where
-  pub except-bad : (k : ℕ) (rows after : List Row) → Excepted p k rows (Bad q) after
-  except-bad k rows after = rw bad
-
-  pub either-bad : (k n b : ℕ) (rows after : List Row) → EitherOf p k n b rows (Bad q) after
-  either-bad k n b rows after = rw bad
-
-  pub closing-bad : Closing p (Bad q)
-  closing-bad = rw bad
-
-  pub shut-bad : (x s : List ℕ) → Shut x s p (Bad q)
-  shut-bad x s = rw bad
-
-  pub step-bad : (k form before : ℕ) (rows after : List Row) → StepOf p k form before rows (Bad q) after
-  step-bad k form before rows after = rw bad
-
 module _ (p : Parsed) (e : ℕ) (v : Bool) (n b : ℕ) (done : p ≡ Done e v n b) where
-  pub except-done : (k : ℕ) (rows after : List Row) → after ≡ note_row rows (k + n + 1) 3 (k + n) 0
-      → Excepted p k rows (Done e v (n + 1) (b + 6)) after
-  except-done k rows after h = rw done (refl, h)
-
-  pub either-done : (k m c : ℕ) (rows after : List Row) → after ≡ note_row rows (k + n + 1) 4 k (k + n) → EitherOf p k m c rows (Done e v (n + m + 1) (b + c + 8)) after
-  either-done k m c rows after h = rw done (refl, h)
-
-  pub step-done : (k form before own bytes : ℕ) (rows after : List Row) → own ≡ form_entries form → bytes ≡ form_bytes form
-      → after ≡ note_row rows (k + n + own) form (k + n) before → StepOf p k form before rows (Done e v (n + own) (b + bytes)) after
-  step-done k form before own bytes rows after i j h = rw (done, ← i, ← j) (refl, h)
-
-  pub closing-done : Closing p (Done e v (n + 1) (b + 4))
-  closing-done = rw done
-
   pub shut-missing : (x s : List ℕ) (q : Stray) (w : Result ℕ Stray) → w ≡ Err q → WordAt x s e w → Shut x s p (Bad q.place)
   shut-missing x s q w j h = rw done (Err q, rw j at h, refl)
 

@@ -27,36 +27,18 @@ use Rattle.parse.specs.declared.tree.Parsed.TheVariants.{Done, Bad}
 use Rattle.spell.specs.Forms.{form_entries, form_bytes}
 use Rattle.spell.proofs.FormLaws.{entries-few, bytes-few}
 use Rattle.parse.specs.Rows.{note_row, form_of, test_entries, test_bytes, step_row, note_t, note_p, note_s, entries_t, entries_s}
-use Rattle.parse.specs.Promises.{leaf_bytes, Small, Ends, Shut, Closing, Excepted, EitherOf, StepOf, TestParsed, PathParsed, StepParsed, Went}
+use Rattle.parse.specs.Promises.{leaf_bytes, Ends, Shut, Closing, Excepted, EitherOf, StepOf, TestParsed, PathParsed, StepParsed, Went}
 use Rattle.words.specs.Words.{head_of}
 use Rattle.words.specs.Begins.{leaf_tree}
 use Rattle.words.proofs.Reading.{OrAt, LeafAt, BeginsAt, StartAt, StepReads, plain_step, plain_form}
 use Rattle.words.proofs.WordLaws.{front}
-use Rattle.paths.specs.Answer.{text_most}
 
--- ---- what a caller needs of a part: its counts are small, it ends within the bytes
+-- ---- what a caller needs of a part: it ends within the bytes
 
 module _ (s : List ℕ) (at k : ℕ) (rows : List Row) where
-  pub test-small : (w : Bool) (p : Parsed) (after : List Row) → length s ≤ text_most → TestParsed w s at k rows p after → Small p
-  test-small w (Done e v n b) after l (f, g, t) = (omega arith, omega arith)
-  test-small w (Bad q) after l h = tt
-
-  pub path-small : (p : Parsed) (after : List Row) → length s ≤ text_most → PathParsed s at k rows p after → Small p
-  path-small (Done e v n b) after l (f, i, g, t) = (omega arith, omega arith)
-  path-small (Bad q) after l h = tt
-
   pub test-ends : (w : Bool) (p : Parsed) (after : List Row) → TestParsed w s at k rows p after → Ends s p
   test-ends w (Done e v n b) after (f, g, t) = f.within
   test-ends w (Bad q) after h = tt
-
-  pub either-ends : (w : Bool) (p r : Parsed) (mid after : List Row) (m n b : ℕ) → TestParsed w s at k rows p mid → EitherOf p m n b mid r after → Ends s r
-  either-ends w (Done e v j c) r mid after m n b (f, g, t) (i, h) = rw i f.within
-  either-ends w (Bad q) r mid after m n b x i = rw i tt
-
-  pub shut-small : (w : Bool) (x : List ℕ) (p r : Parsed) (after : List Row) → length s ≤ text_most → TestParsed w s at k rows p after → Shut x s p r → Small r
-  shut-small w x (Done e v n b) r after l (f, g, t) (Ok q, h, i) = rw i (omega arith, omega arith)
-  shut-small w x (Done e v n b) r after l (f, g, t) (Err q, h, i) = rw i tt
-  shut-small w x (Bad q) r after l h i = rw i tt
 
 -- ---- `true`, label N
 

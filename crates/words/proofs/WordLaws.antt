@@ -74,9 +74,6 @@ module _ (x s : List ℕ) (at i : ℕ) where
   agree-step l m = rw (cursor x i l, cursor s (at + i) m)
 
 module _ (x s : List ℕ) (at : ℕ) where
-  pub agree-start : agree x (drop at s) ≡ 0 + agree (drop 0 x) (drop (at + 0) s)
-  agree-start = let z : at + 0 ≡ at = omega arith in rw z (omega arith)
-
   -- Either the word or the string is at its end.
   pub agree-ended : (i : ℕ) → (i < length x → length s ≤ at + i) → agree (drop i x) (drop (at + i) s) ≡ 0
   agree-ended i h = elim (dec_lt i (length x)) [ yes l ↦ agree-out x s at i (h l) | no l ↦ agree-over x s at i (omega arith) ]

@@ -1,36 +1,20 @@
 use Prim.Native.Nat.{◌+◌}
 use native.Mathlib.Omega.{arith}
 use mathlib.Core.Path.{sym, ◌∙◌}
-use mathlib.Core.Bool.{true, false}
-use mathlib.Core.List.{[], ◌∷◌}
+use mathlib.Core.Bool.{false}
 use Rattle.words.proofs.WordLaws.{front}
 use Rattle.words.proofs.BeginSays.{or-says, begins-says, start-says}
-use Rattle.parse.proofs.TreeLaws.{test-small, path-small, test-ends, either-ends, shut-small, leaf-law, except-law, begins-law, either_left, either-word, either-law, went-none, path-stops, path-bad, path-ended, went-more, plain-law, passing-law, while-law}
+use Rattle.parse.proofs.TreeLaws.{test-ends, leaf-law, except-law, begins-law, either_left, either-word, either-law, went-none, path-bad, path-ended, went-more, plain-law, passing-law, while-law}
 use Rattle.parse.proofs.tree.+either_path_step_test.Goals as goal
-
-pub either-overflow_add-at : goal.either-overflow_add-at
-either-overflow_add-at t c = omega (arith, c.well_formed, (front c.args.s.now c.args.at 40 c.requires.1 (omega arith)).0)
 
 pub either-test-requires : goal.either-test-requires
 either-test-requires t c = let l = (front c.args.s.now c.args.at 40 c.requires.1 (omega arith)).0 in (omega (arith, c.requires, l), (omega (arith, l), c.requires.0.1, omega (arith, c.requires.0.2)))
-
-pub either-overflow_add-k : goal.either-overflow_add-k
-either-overflow_add-k t c = let x = (rw c.in-Done.is at c.test.ensures) in omega (arith, c.requires, x.0.entries_fit, x.0.within)
 
 pub either-overflow_cast-result : goal.either-overflow_cast-result
 either-overflow_cast-result t c = let y = (or-says c.in-Done.v c.args.s.now c.in-Done.e (rw c.in-Done.is at (test-ends c.args.s.now (c.args.at + 1) _ _ false c.test.result _ c.test.ensures)) c.or_at.ensures c.in-Err.is) in omega (arith, c.requires, y.0)
 
 pub either-test-right-requires : goal.either-test-right-requires
 either-test-right-requires t c = let x = (rw c.in-Done.is at c.test.ensures) in let y = (or-says c.in-Done.v c.args.s.now c.in-Done.e (rw c.in-Done.is at (test-ends c.args.s.now (c.args.at + 1) _ _ false c.test.result _ c.test.ensures)) c.or_at.ensures c.in-Ok.is) in (omega (arith, c.requires, x.0.on, y.0, y.1), (y.1, c.requires.0.1, omega (arith, c.requires.0.2, x.0.entries_fit, y.0)))
-
-pub either-overflow_add-k-in-Ok : goal.either-overflow_add-k-in-Ok
-either-overflow_add-k-in-Ok t c = let x = (rw c.in-Done.is at c.test.ensures) in omega (arith, c.requires, x.0.entries_fit, x.0.within)
-
-pub either-either_of-requires : goal.either-either_of-requires
-either-either_of-requires t c = let x = (rw c.in-Done.is at c.test.ensures) in (test-small c.args.s.now c.in-Ok.f _ _ true c.test-right.result _ c.requires.0.1 c.test-right.ensures, omega (arith, c.requires, x.0.entries_fit, x.0.within), omega (arith, c.requires, x.0.entries_fit, x.0.within), omega (arith, c.requires, x.0.entries_fit, x.0.within, x.0.bytes_fit))
-
-pub either-shut-requires : goal.either-shut-requires
-either-shut-requires t c = (either-ends c.args.s.now c.in-Ok.f _ _ true c.test-right.result c.either_of.result _ _ _ _ _ c.test-right.ensures c.either_of.ensures, c.requires.0.1)
 
 pub either-returns-in-Bad : goal.either-returns-in-Bad
 either-returns-in-Bad t c = λ w. either_left w c.args.s.now c.args.at c.args.k c.args.rows.now c.requires.1 c.in-Bad.p (rw c.in-Bad.is at c.test.ensures)
@@ -44,38 +28,11 @@ either-returns-in-Ok t c = λ w. either-law w c.args.s.now c.args.at c.args.k c.
 pub path-loop-p-init : goal.path-loop-p-init
 path-loop-p-init t c = went-none c.args.s.now c.args.at c.args.k c.args.rows.now c.requires.0
 
-pub path-overflow_add-k : goal.path-overflow_add-k
-path-overflow_add-k t c = omega (arith, c.requires, c.loop-p.invariant.entries_fit, c.loop-p.invariant.within)
-
-pub path-step-requires : goal.path-step-requires
-path-step-requires t c = (omega (arith, c.requires, c.loop-p.invariant.on, c.loop-p.invariant.within), (c.loop-p.invariant.within, c.requires.1, omega (arith, c.requires.2, c.loop-p.invariant.entries_fit)))
-
-pub path-returns-in-Bad : goal.path-returns-in-Bad
-path-returns-in-Bad t c = path-stops c.args.s.now c.args.at c.args.k c.args.rows.now c.loop-p.from c.loop-p.entries c.loop-p.bytes c.loop-p.before c.loop-p.rows c.loop-p.invariant c.in-Bad.p (rw c.in-Bad.is at c.step.ensures)
-
-pub path-overflow_add-entries : goal.path-overflow_add-entries
-path-overflow_add-entries t c = let y = (rw c.in-Done.is at c.step.ensures) in omega (arith, c.requires, c.loop-p.invariant.entries_fit, y.0.entries_fit, y.0.within)
-
-pub path-overflow_add-bytes : goal.path-overflow_add-bytes
-path-overflow_add-bytes t c = let y = (rw c.in-Done.is at c.step.ensures) in omega (arith, c.requires, c.loop-p.invariant.entries_fit, c.loop-p.invariant.bytes_fit, y.0.entries_fit, y.0.bytes_fit, y.0.within)
-
-pub path-overflow_add-result : goal.path-overflow_add-result
-path-overflow_add-result t c = let y = (rw c.in-Done.is at c.step.ensures) in omega (arith, c.requires, y.0.within)
-
 pub path-returns-then-next-eq62 : goal.path-returns-then-next-eq62
 path-returns-then-next-eq62 t c = path-ended c.args.s.now c.args.at c.args.k c.args.rows.now c.loop-p.from c.loop-p.entries c.loop-p.bytes c.loop-p.before c.loop-p.rows c.loop-p.invariant c.in-Done.e c.in-Done.n c.in-Done.b c.in-Done.v _ (rw c.in-Done.is at c.step.ensures) (sym c.byte_at-next.ensures ∙ c.if-next-eq62.true)
 
 pub path-returns-then-next-ne47 : goal.path-returns-then-next-ne47
 path-returns-then-next-ne47 t c = path-bad c.args.s.now c.args.at c.args.k c.args.rows.now c.loop-p.from c.loop-p.entries c.loop-p.bytes c.loop-p.before c.loop-p.rows c.loop-p.invariant c.in-Done.e c.in-Done.n c.in-Done.b c.in-Done.v _ (rw c.in-Done.is at c.step.ensures) (λ h. c.if-next-ne47.true (c.byte_at-next.ensures ∙ h)) (λ h. c.if-next-eq62.false (c.byte_at-next.ensures ∙ h))
-
-pub path-overflow_add-from : goal.path-overflow_add-from
-path-overflow_add-from t c = omega (arith, c.well_formed, (front c.args.s.now c.in-Done.e 47 (sym c.byte_at-next.ensures ∙ c.if-next-ne47.false) (omega arith)).0)
-
-pub path-overflow_add-before : goal.path-overflow_add-before
-path-overflow_add-before t c = let y = (rw c.in-Done.is at c.step.ensures) in omega (arith, c.requires, c.loop-p.invariant.entries_fit, y.0.entries_fit, y.0.within)
-
-pub path-loop-p-smaller : goal.path-loop-p-smaller
-path-loop-p-smaller t c = let y = (rw c.in-Done.is at c.step.ensures) in let l = (front c.args.s.now c.in-Done.e 47 (sym c.byte_at-next.ensures ∙ c.if-next-ne47.false) (omega arith)).0 in omega (arith, y.0.on, l)
 
 pub path-loop-p-preserved : goal.path-loop-p-preserved
 path-loop-p-preserved t c = went-more c.args.s.now c.args.at c.args.k c.args.rows.now c.loop-p.from c.loop-p.entries c.loop-p.bytes c.loop-p.before c.loop-p.rows c.loop-p.invariant c.in-Done.e c.in-Done.n c.in-Done.b c.in-Done.v _ (rw c.in-Done.is at c.step.ensures) (sym c.byte_at-next.ensures ∙ c.if-next-ne47.false)
@@ -86,26 +43,11 @@ step-overflow_cast-result t c = let y = (start-says c.args.s.now c.args.at c.req
 pub step-overflow_cast-e : goal.step-overflow_cast-e
 step-overflow_cast-e t c = let y = (rw c.in-Ok-Plain.field-0-is at (start-says c.args.s.now c.args.at c.requires.0 c.start_at.ensures c.in-Ok-Plain.is)) in omega (arith, c.requires, y.1)
 
-pub step-step_of-requires : goal.step-step_of-requires
-step-step_of-requires t c = ((omega arith, omega arith), omega (arith, c.requires))
-
-pub step-overflow_add-at : goal.step-overflow_add-at
-step-overflow_add-at t c = omega (arith, c.well_formed, (front c.args.s.now c.args.at 63 (rw c.in-Ok-Test.field-0-is at (start-says c.args.s.now c.args.at c.requires.0 c.start_at.ensures c.in-Ok-Test.is)) (omega arith)).0)
-
 pub step-test-inner-requires : goal.step-test-inner-requires
 step-test-inner-requires t c = let l = (front c.args.s.now c.args.at 63 (rw c.in-Ok-Test.field-0-is at (start-says c.args.s.now c.args.at c.requires.0 c.start_at.ensures c.in-Ok-Test.is)) (omega arith)).0 in (omega (arith, c.requires, l), (omega (arith, l), c.requires.1, omega (arith, c.requires.2)))
 
-pub step-step_of-requires-in-Ok-Test : goal.step-step_of-requires-in-Ok-Test
-step-step_of-requires-in-Ok-Test t c = (test-small c.args.s.now (c.args.at + 1) _ _ false c.test-inner.result _ c.requires.1 c.test-inner.ensures, omega (arith, c.requires))
-
 pub step-test-inner-requires-in-Ok-While : goal.step-test-inner-requires-in-Ok-While
 step-test-inner-requires-in-Ok-While t c = let x = (rw c.in-Ok-While.field-0-is at (start-says c.args.s.now c.args.at c.requires.0 c.start_at.ensures c.in-Ok-While.is)) in (omega (arith, c.requires, x.0, x.1), (x.1, c.requires.1, omega (arith, c.requires.2, x.0)))
-
-pub step-shut-requires : goal.step-shut-requires
-step-shut-requires t c = (test-ends c.args.s.now c.in-Ok-While.f _ _ false c.test-inner-in-Ok-While.result _ c.test-inner-in-Ok-While.ensures, c.requires.1)
-
-pub step-step_of-requires-in-Ok-While : goal.step-step_of-requires-in-Ok-While
-step-step_of-requires-in-Ok-While t c = (shut-small c.args.s.now c.in-Ok-While.f _ _ false (41 ∷ 42 ∷ []) c.test-inner-in-Ok-While.result c.shut.result _ c.requires.1 c.test-inner-in-Ok-While.ensures c.shut.ensures, omega (arith, c.requires))
 
 pub step-returns-in-Err : goal.step-returns-in-Err
 step-returns-in-Err t c = start-says c.args.s.now c.args.at c.requires.0 c.start_at.ensures c.in-Err.is
@@ -128,23 +70,11 @@ test-leaf-requires t c = let y = (rw c.in-Ok-Leaf.field-0-is at (begins-says c.a
 pub test-test-inner-requires : goal.test-test-inner-requires
 test-test-inner-requires t c = let x = (rw c.in-Ok-Not.field-0-is at (begins-says c.args.after c.args.s.now c.args.at c.requires.0 c.begins_at.ensures c.in-Ok-Not.is)) in (omega (arith, c.requires, x.0, x.1), (x.1, c.requires.1, omega (arith, c.requires.2, x.0)))
 
-pub test-except-requires : goal.test-except-requires
-test-except-requires t c = (test-small c.args.s.now c.in-Ok-Not.f _ _ true c.test-inner.result _ c.requires.1 c.test-inner.ensures, omega (arith, c.requires))
-
 pub test-either-requires : goal.test-either-requires
 test-either-requires t c = let h = (rw c.in-Ok-Either.field-0-is at (begins-says c.args.after c.args.s.now c.args.at c.requires.0 c.begins_at.ensures c.in-Ok-Either.is)) in let l = (front c.args.s.now c.args.at 40 h (omega arith)).0 in (omega (arith, c.requires, l), (c.requires, h))
 
-pub test-overflow_add-at : goal.test-overflow_add-at
-test-overflow_add-at t c = omega (arith, c.well_formed, (front c.args.s.now c.args.at 60 (rw c.in-Ok-Path.field-0-is at (begins-says c.args.after c.args.s.now c.args.at c.requires.0 c.begins_at.ensures c.in-Ok-Path.is)) (omega arith)).0)
-
-pub test-overflow_add-k : goal.test-overflow_add-k
-test-overflow_add-k t c = omega (arith, c.requires)
-
 pub test-path-requires : goal.test-path-requires
 test-path-requires t c = let l = (front c.args.s.now c.args.at 60 (rw c.in-Ok-Path.field-0-is at (begins-says c.args.after c.args.s.now c.args.at c.requires.0 c.begins_at.ensures c.in-Ok-Path.is)) (omega arith)).0 in (omega (arith, c.requires, l), (omega (arith, l), c.requires.1, omega (arith, c.requires.2)))
-
-pub test-closing-requires : goal.test-closing-requires
-test-closing-requires t c = path-small c.args.s.now (c.args.at + 1) _ _ c.path.result _ c.requires.1 c.path.ensures
 
 pub test-returns-in-Err : goal.test-returns-in-Err
 test-returns-in-Err t c = begins-says c.args.after c.args.s.now c.args.at c.requires.0 c.begins_at.ensures c.in-Err.is
@@ -154,9 +84,6 @@ test-returns-in-Ok-Leaf t c = leaf-law c.args.after c.args.s.now c.args.at c.arg
 
 pub test-returns-in-Ok-Not : goal.test-returns-in-Ok-Not
 test-returns-in-Ok-Not t c = except-law c.args.after c.args.s.now c.args.at c.args.k c.args.rows.now _ c.except.result c.in-Ok-Not.f c.test-inner.result _ (rw c.in-Ok-Not.field-0-is at (begins-says c.args.after c.args.s.now c.args.at c.requires.0 c.begins_at.ensures c.in-Ok-Not.is)) c.test-inner.ensures c.except.ensures
-
-pub test-returns-in-Ok-Either : goal.test-returns-in-Ok-Either
-test-returns-in-Ok-Either t c = c.either.ensures c.args.after
 
 pub test-returns-in-Ok-Path : goal.test-returns-in-Ok-Path
 test-returns-in-Ok-Path t c = begins-law c.args.after c.args.s.now c.args.at c.args.k c.args.rows.now _ c.closing.result c.path.result (rw c.in-Ok-Path.field-0-is at (begins-says c.args.after c.args.s.now c.args.at c.requires.0 c.begins_at.ensures c.in-Ok-Path.is)) c.path.ensures c.closing.ensures

@@ -1,16 +1,10 @@
 use native.Mathlib.Omega.{arith}
 use Rattle.spell.proofs.FormLaws.{entries-few, bytes-few}
-use Rattle.parse.proofs.PartLaws.{small_of, step-bad, step-done}
+use Rattle.parse.proofs.PartLaws.{small_of}
 use Rattle.parse.proofs.tree.step_of.Goals as goal
-
-pub overflow_add-k : goal.overflow_add-k
-overflow_add-k c = omega (arith, c.requires, c.own_entries-own.ensures, entries-few c.args.form, small_of _ _ _ _ _ c.in-Done.is c.requires.0)
 
 pub overflow_add-k-in-Done : goal.overflow_add-k-in-Done
 overflow_add-k-in-Done c = omega (arith, c.requires, c.own_entries-own.ensures, entries-few c.args.form, small_of _ _ _ _ _ c.in-Done.is c.requires.0)
-
-pub overflow_add-k-in-Done-2 : goal.overflow_add-k-in-Done-2
-overflow_add-k-in-Done-2 c = omega (arith, c.requires, c.own_entries-own.ensures, entries-few c.args.form, small_of _ _ _ _ _ c.in-Done.is c.requires.0)
 
 pub note_row-requires : goal.note_row-requires
 note_row-requires c = omega (arith, c.own_entries-own.ensures, entries-few c.args.form)
@@ -20,9 +14,3 @@ overflow_add-result c = omega (arith, c.requires, c.own_entries-own.ensures, ent
 
 pub overflow_add-result-in-Done : goal.overflow_add-result-in-Done
 overflow_add-result-in-Done c = omega (arith, c.requires, c.own_bytes.ensures, entries-few c.args.form, bytes-few c.args.form, small_of _ _ _ _ _ c.in-Done.is c.requires.0)
-
-pub returns-in-Bad : goal.returns-in-Bad
-returns-in-Bad c = step-bad _ _ c.in-Bad.is _ _ _ _ _
-
-pub returns-in-Done : goal.returns-in-Done
-returns-in-Done c = step-done _ _ _ _ _ c.in-Done.is _ _ _ _ _ _ _ c.own_entries-own.ensures c.own_bytes.ensures c.note_row.ensures

@@ -1,11 +1,7 @@
 -- `put_number` stores two bytes. Assumes nothing.
 use native.Mathlib.Omega.{arith}
-use lib.ListN.{length-set}
 use Rattle.spell.proofs.Records.{number-puts}
 use Rattle.spell.proofs.put.put_number.Goals as goal
-
-pub bounds-rule-at-2 : goal.bounds-rule-at-2
-bounds-rule-at-2 c = rw length-set (omega arith)
 
 pub returns : goal.returns
 returns c =

@@ -1,14 +1,13 @@
 -- `write` calls itself on rows below its own and `write_steps` on its own row, `write_steps` calls `write_step` on that row and then, with
 -- more entries written, on those that it leads to, and `write_step` calls `write` on a row below. Assumes nothing.
 use native.Mathlib.Omega.{arith}
-use Rattle.spell.specs.Promises.{written}
 use borrow.Author.Rules.{rules}
 use mathlib.Core.Path.{◌≡◌}
 use mathlib.Core.List.{List}
 use Rattle.parse.specs.declared.tree.Row.{Row}
 use Rattle.parse.specs.Rows.{row_at}
 use Rattle.typing.proofs.Below.{Says, step-row, test-row}
-use Rattle.typing.proofs.Writer.{leaf-put, not_first, not-put, or-first, or-second, or_put, path-first, path-second, path-put, plain-put, tested-first, tested-put, steps_first, along-none, along-last, along-less, along-more}
+use Rattle.typing.proofs.Writer.{leaf-put, not_first, not-put, or-first, or-second, or_put, path-first, path-second, path-put, plain-put, tested-first, tested-put, steps_first, along-last, along-less, along-more}
 use Prim.Native.Nat.{ℕ}
 use Rattle.typing.proofs.write.+write_write_step_write_steps.Goals as goal
 
@@ -83,10 +82,6 @@ pub write_step-returns-in_default : goal.write_step-returns-in_default
 write_step-returns-in_default t c =
     tested-put (says c.row_at-part.ensures) (λ l. omega (arith, l)) c.write-test.ensures c.last-in_default.ensures c.requires.2
     c.put_part-in_default.ensures
-
-pub write_steps-loop-part-init : goal.write_steps-loop-part-init
-write_steps-loop-part-init t c =
-    along-none c.args.rows.now c.args.n c.args.rule.now (written c.args.entries c.args.bytes) c.requires.0 c.requires.1 c.requires.2
 
 pub write_steps-write_step-so_far-requires : goal.write_steps-write_step-so_far-requires
 write_steps-write_step-so_far-requires t c =

@@ -2,9 +2,6 @@ use native.Mathlib.Omega.{arith}
 use Rattle.words.proofs.WordLaws.{digit-byte, digit-is, digit_not, digit-there}
 use Rattle.words.proofs.words.digit_at.Goals as goal
 
-pub overflow_sub-result : goal.overflow_sub-result
-overflow_sub-result c = omega (arith, c.requires, digit-byte c.args.low c.byte_at-b.result c.if-low-b.true)
-
 pub returns-then-low-b : goal.returns-then-low-b
 returns-then-low-b c =
     record {
