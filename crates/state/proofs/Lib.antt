@@ -5,3 +5,4 @@ pub mod StateLaws
 pub mod NumberLaws
 pub mod WrittenLaws
 pub mod Only
+pub mod Parts

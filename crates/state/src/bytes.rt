@@ -17,18 +17,25 @@ pub(crate) fn word_at(s: &[u8], at: usize) -> u64
     requires { at + 8 ≤ length s.now }
     ensures { result ≡ word_at 8 s.now at }
 {
-    let low = number_at(s, at) as u64 + 65536 * (number_at(s, at + 2) as u64);
-    let high = number_at(s, at + 4) as u64 + 65536 * (number_at(s, at + 6) as u64);
-    low + 4294967296 * high
+    u64::from_le_bytes([
+        s[at],
+        s[at + 1],
+        s[at + 2],
+        s[at + 3],
+        s[at + 4],
+        s[at + 5],
+        s[at + 6],
+        s[at + 7],
+    ])
 }
 
 // Stores a number in two bytes at an offset.
-pub(crate) fn put_number(s: &mut [u8], at: usize, v: u64)
-    requires { at + 2 ≤ length s.old }
+pub(crate) fn put_number(s: &mut [u8], at: usize, v: usize)
+    requires in_bounds { at + 2 ≤ length s.old }
+    requires fits { v < 65536 }
     ensures { s.new ≡ number_put 2 at v s.old }
 {
-    s[at] = (v % 256) as u8;
-    s[at + 1] = (v / 256 % 256) as u8;
+    s[at..at + 2].copy_from_slice(&(v as u16).to_le_bytes());
 }
 
 // Stores a word in eight bytes at an offset.
@@ -36,8 +43,5 @@ pub(crate) fn put_word(s: &mut [u8], at: usize, v: u64)
     requires { at + 8 ≤ length s.old }
     ensures { s.new ≡ number_put 8 at v s.old }
 {
-    put_number(s, at, v);
-    put_number(s, at + 2, v / 65536);
-    put_number(s, at + 4, v / 4294967296);
-    put_number(s, at + 6, v / 4294967296 / 65536);
+    s[at..at + 8].copy_from_slice(&v.to_le_bytes());
 }

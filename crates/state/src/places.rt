@@ -82,8 +82,8 @@ pub(crate) fn store_opening(s: &mut State, front: Front, w: u64)
     let presence = word_at(s, PRESENCE);
     put_word(s, PRESENCE, cleared_below(presence, front.depth));
     put_word(s, OPEN_WORDS + 8 * front.depth, w);
-    put_number(s, DEPTH, (front.depth + 1) as u64);
-    put_number(s, ELEMENTS, (front.elements + 1) as u64);
+    put_number(s, DEPTH, front.depth + 1);
+    put_number(s, ELEMENTS, front.elements + 1);
 }
 
 // Stores what closing writes that leaves depth d.
@@ -96,6 +96,6 @@ pub(crate) fn store_closing(s: &mut State, d: usize)
     let root = number_at(s, ROOT);
     put_word(s, PRESENCE, with_bit(presence, d, true));
     put_word(s, LAST_WORDS + 8 * d, w);
-    put_number(s, DEPTH, d as u64);
-    put_number(s, ROOT, root_after(root, d) as u64);
+    put_number(s, DEPTH, d);
+    put_number(s, ROOT, root_after(root, d));
 }

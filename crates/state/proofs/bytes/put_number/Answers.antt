@@ -1,12 +1,12 @@
--- `put_number` stores the two bytes. Assumes nothing.
-use mathlib.Core.Path.{sym, ◌∙◌}
+-- `put_number`: the two bytes, the low one first. Assumes nothing.
 use native.Mathlib.Omega.{arith}
-use lib.ListN.{length-set}
-use Rattle.numbers.proofs.ByteLaws.{put-none, put_step}
+use Rattle.std.specs.Int.{bytes_low_first}
+use Rattle.numbers.specs.Bytes.{low_bytes, number_put}
+use Rattle.state.proofs.Parts.{put-part}
 use Rattle.state.proofs.bytes.put_number.Goals as goal
 
-pub bounds-s-at-2 : goal.bounds-s-at-2
-bounds-s-at-2 c = simp length-set (omega arith)
-
 pub returns : goal.returns
-returns c = sym (put_step 1 _ _ _ ∙ put_step 0 _ _ _ ∙ put-none _ _ _)
+unfolding number_put low_bytes
+returns c =
+    let a = c.args in
+    rw (c.copy_from_slice.ensures.after, c.to_le_bytes.ensures) (put-part a.s.now (bytes_low_first 0 2 a.v) a.at (omega arith))

@@ -1,19 +1,18 @@
--- `word_at` reads four numbers of two bytes. Assumes nothing.
-use Prim.Native.Nat.{ℕ, ◌+◌, ◌*◌}
+-- `word_at`: the eight bytes, the low one first. Assumes nothing.
+use Prim.Native.Nat.{◌+◌}
 use native.Mathlib.Omega.{arith}
-use mathlib.Core.Path.{◌≡◌, sym, ◌∙◌}
-use mathlib.Core.List.{List}
+use mathlib.Core.Path.{◌≡◌, ◌∙◌}
 use Rattle.numbers.specs.Bytes.{word_at}
-use Rattle.numbers.proofs.ByteLaws.{word_split}
 use Rattle.state.proofs.bytes.word_at.Goals as goal
 
-word-quarters : (s : List ℕ) (at : ℕ)
-    → word_at 2 s at + 65536 * word_at 2 s (at + 2) + 4294967296 * (word_at 2 s (at + 4) + 65536 * word_at 2 s (at + 6)) ≡ word_at 8 s at
-word-quarters s at =
-    let e : at + 4 + 2 ≡ at + 6 = omega arith in
-    sym (word_split 4 4 s at ∙ rw (word_split 2 2 s at, word_split 2 2 s (at + 4), e))
-
 pub returns : goal.returns
+unfolding word_at
 returns c =
-    rw (c.number_at.ensures.0, c.number_at-2.ensures.0, c.number_at-3.ensures.0, c.number_at-4.ensures.0)
-    (word-quarters _ _)
+    let at = c.args.at in
+    let two : at + 1 + 1 ≡ at + 2 = omega arith in
+    let three : at + 2 + 1 ≡ at + 3 = omega arith in
+    let four : at + 3 + 1 ≡ at + 4 = omega arith in
+    let five : at + 4 + 1 ≡ at + 5 = omega arith in
+    let six : at + 5 + 1 ≡ at + 6 = omega arith in
+    let seven : at + 6 + 1 ≡ at + 7 = omega arith in
+    c.from_le_bytes.ensures ∙ rw (two, three, four, five, six, seven) (omega arith)

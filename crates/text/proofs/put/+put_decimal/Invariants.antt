@@ -1,5 +1,5 @@
 -- The number falls with each call. Assumes nothing.
-use Rattle.text.proofs.put.Writer.+put_decimal.Given as goal
+use Rattle.text.proofs.put.+put_decimal.Given as goal
 
 abbrev pub decreases-put_decimal : goal.decreases-put_decimal
 decreases-put_decimal l = l.x
