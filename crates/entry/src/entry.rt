@@ -54,7 +54,7 @@ fn whole_entry(row: Row, own: usize, e: Entry, next: usize) -> Result<Taken, Fau
 {
     let numbers = row.numbers;
     if misdirects(numbers, row.arguments, own, e) {
-        Err(Fault::RuleNumbers)
+        Err(Fault::RuleArgument)
     } else {
         Ok(Taken { entry: e, next })
     }
@@ -66,7 +66,7 @@ pub fn take_entry(s: &[u8], own: usize, at: usize) -> Result<Taken, Fault>
 {
     let full = ENTRIES_MOST <= own;
     if full {
-        return Err(Fault::RuleEntries);
+        return Err(Fault::RuleFull);
     }
     if s.len() < 4 {
         return Err(Fault::RuleRecord);

@@ -32,7 +32,7 @@ use Rattle.marking.specs.declared.report.Counted.{Counted}
 use Rattle.marking.specs.declared.report.Marking.{Marking}
 use Rattle.std.specs.Prelude.{Result, Ok, Err}
 use Rattle.terms.specs.declared.refusal.Refusal.{Refusal}
-use Rattle.terms.specs.declared.refusal.Fault.TheVariants.{Room}
+use Rattle.terms.specs.declared.refusal.Fault.TheVariants.{BufferShort}
 use Rattle.rules.specs.Entries.{EntriesTaken, entries_of}
 use Rattle.reports.specs.Elements.{labels_of, levels_of}
 use Rattle.numbers.specs.Lists.{over}
@@ -98,7 +98,7 @@ module _ (es : List Entry) {report labels levels ups lefts : List ℕ} (marks : 
 
     -- The report is accepted, and there is no room for its elements.
     pub by-short : room_for labels levels ups lefts marks < n
-        → MarkedBy es report labels levels ups lefts marks (Err (record { fault = Room; place = 0 })) ls ds us fs marks
+        → MarkedBy es report labels levels ups lefts marks (Err (record { fault = BufferShort; place = 0 })) ls ds us fs marks
     unfolding short_of_room number_of_fault
     by-short h =
         record {

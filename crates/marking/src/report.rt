@@ -59,7 +59,7 @@ fn mark_by_entries(
         marks.len(),
         n,
     ) {
-        return Err(Fault::Room.at(0));
+        return Err(Fault::BufferShort.at(0));
     }
     let read = Elements { labels, ups, lefts };
     let selected = mark_elements(entries, n, read, marks);

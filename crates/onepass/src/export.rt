@@ -46,7 +46,7 @@ fn looks_back(ahead: bool) -> Result<(), Fault>
     ensures { fault_number result ≡ cond «ahead» 10 0 }
 {
     if ahead {
-        Err(Fault::LooksAhead)
+        Err(Fault::RuleAhead)
     } else {
         Ok(())
     }

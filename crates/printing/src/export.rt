@@ -53,7 +53,7 @@ fn print(rule: &[u8], report: &[u8], text: &mut [u8]) -> Result<usize, Refusal>
     let mut whole = [0u8; TEXT_BYTES];
     let written = put_taken(rule, report, &mut whole)?;
     if text.len() < written {
-        return Err(Fault::Room.at(0));
+        return Err(Fault::BufferShort.at(0));
     }
     copy_front(&whole, written, text);
     Ok(written)

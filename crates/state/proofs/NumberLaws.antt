@@ -20,7 +20,7 @@ use Rattle.std.specs.Prelude.{Result, Ok, Err, Some}
 use Rattle.std.specs.Result.{IsErrAnd}
 use Rattle.terms.specs.Answer.{number_of_fault, fault_number}
 use Rattle.terms.specs.declared.refusal.Fault.{Fault}
-use Rattle.terms.specs.declared.refusal.Fault.TheVariants.{State}
+use Rattle.terms.specs.declared.refusal.Fault.TheVariants.{StateBad}
 use Rattle.state.specs.State.{depth_in, elements_in, root_in, presence_in, open_place, last_place, state_of, bad, Good}
 use Rattle.state.specs.Stores.{start_after, opened_bytes, closed_bytes}
 use Rattle.state.specs.declared.state.Words.{Words}
@@ -83,7 +83,7 @@ module _ (s : List ℕ) where
 
 module _ (s : List ℕ) where
   -- A state of another size is bad: 11.
-  pub number-other-size : (t : Tag) → (length s ≡ state_size → ⊥) → number_of_fault State ≡ state_number s t
+  pub number-other-size : (t : Tag) → (length s ≡ state_size → ⊥) → number_of_fault StateBad ≡ state_number s t
   unfolding state_number bad bad_size number_of_fault
   number-other-size t n = rw (ne_eqb (length s) state_size n)
 
@@ -161,7 +161,7 @@ opened-read es s l r w z =
 
 module _ (s : List ℕ) (b : Bool) (tested : b ≡ bad_size (length s)) where
   -- Start with another size.
-  pub start-refused : b ≡ true → StateStarted s (number_of_fault State) s
+  pub start-refused : b ≡ true → StateStarted s (number_of_fault StateBad) s
   unfolding start_number start_after number_of_fault
   start-refused e = record { number_is = rw (← tested, e); state_is = rw (← tested, e) }
 

@@ -3,7 +3,7 @@
 -- Assumes nothing.
 use Rattle.std.specs.Prelude.{ℕ, ◌≡◌, Bool, true, false, List, Option, None, Some, Result, Ok, Err, get_or}
 use Rattle.terms.specs.declared.refusal.Fault.{Fault}
-use Rattle.terms.specs.declared.refusal.Fault.TheVariants.{State}
+use Rattle.terms.specs.declared.refusal.Fault.TheVariants.{StateBad}
 use Rattle.fields.specs.Fields.{bad_fields}
 use Rattle.state.specs.State.{depth_in, elements_in, root_in}
 use Rattle.state.specs.Promises.{readable, parent_in, sibling_in}
@@ -16,7 +16,7 @@ bad_front s = bad_fields (depth_in s) (elements_in s) (root_in s) (get_or s 6 0)
 
 abbrev pub FrontRead : List ℕ → Result Front Fault → Type 0
 FrontRead s (Ok f) = (bad_front s ≡ false) × (f.depth ≡ depth_in s) × (f.elements ≡ elements_in s) × (f.root ≡ root_in s)
-FrontRead s (Err f) = (bad_front s ≡ true) × (f ≡ State)
+FrontRead s (Err f) = (bad_front s ≡ true) × (f ≡ StateBad)
 
 -- And of the words that an opening reads: both, where the state is not bad and has a level left.
 abbrev pub WordsFound : List ℕ → Option Words → Type 0

@@ -48,7 +48,7 @@ pub(crate) fn read_front(s: &State) -> Result<Front, Fault>
         root: number_at(s, ROOT),
     };
     if bad_fields(front.depth, front.elements, front.root, s[6], s[7]) {
-        return Err(Fault::State);
+        return Err(Fault::StateBad);
     }
     Ok(front)
 }

@@ -50,7 +50,7 @@ pub fn start_state(state: &mut [u8]) -> Result<(), Fault>
     ensures { StateStarted state.old (fault_number result) state.new }
 {
     if bad_size(state.len()) {
-        return Err(Fault::State);
+        return Err(Fault::StateBad);
     }
     clear(state);
     Ok(())
@@ -61,7 +61,7 @@ pub fn open_state(state: &mut [u8], label: usize, w: u64) -> Result<(), Fault>
     ensures { StateOpened state.old label w (fault_number result) state.new }
 {
     let Some(bytes) = state.as_mut_array() else {
-        return Err(Fault::State);
+        return Err(Fault::StateBad);
     };
     let front = read_front(bytes)?;
     open_fault(front.depth, front.elements, front.root == 1, label)?;
@@ -74,7 +74,7 @@ pub fn close_state(state: &mut [u8]) -> Result<(), Fault>
     ensures { StateClosed state.old (fault_number result) state.new }
 {
     let Some(bytes) = state.as_mut_array() else {
-        return Err(Fault::State);
+        return Err(Fault::StateBad);
     };
     let depth = read_front(bytes)?.depth;
     close_fault(depth)?;

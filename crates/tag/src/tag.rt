@@ -29,10 +29,10 @@ pub fn open_fault(
         return Err(Fault::ReportRecord);
     }
     if root_closed {
-        return Err(Fault::Nesting);
+        return Err(Fault::ReportOrder);
     }
     if (LEVELS_MOST <= depth) | (ELEMENTS_MOST <= elements) {
-        return Err(Fault::ReportLimits);
+        return Err(Fault::ReportFull);
     }
     Ok(())
 }
@@ -43,7 +43,7 @@ pub fn close_fault(depth: usize) -> Result<(), Fault>
 {
     let nothing_open = depth == 0;
     if nothing_open {
-        Err(Fault::Nesting)
+        Err(Fault::ReportOrder)
     } else {
         Ok(())
     }
@@ -113,6 +113,6 @@ pub fn end_of(size: usize, depth: usize, elements: usize) -> Result<usize, Refus
     if depth == 0 {
         Ok(elements)
     } else {
-        Err(Fault::Nesting.at(size))
+        Err(Fault::ReportOrder.at(size))
     }
 }

@@ -8,47 +8,47 @@ use Rattle.std.specs.Prelude.{Result, Ok, Err}
 use Rattle.std.specs.Result.{IsErrAnd}
 use Rattle.terms.specs.Answer.{Answer, count_of, number_of, place_of, number_of_fault, answered, fault_number}
 use Rattle.terms.specs.declared.refusal.Fault.{Fault}
-use Rattle.terms.specs.declared.refusal.Fault.TheVariants.{RuleSize, RuleRecord, RuleNumbers, RuleEntries, ReportSize, ReportRecord, Nesting, ReportLimits, Room, LooksAhead, State, Tally, Text, TextEntries}
+use Rattle.terms.specs.declared.refusal.Fault.TheVariants.{RuleSize, RuleRecord, RuleArgument, RuleFull, ReportSize, ReportRecord, ReportOrder, ReportFull, BufferShort, RuleAhead, StateBad, TallyBad, TextBad, TextFull}
 use Rattle.terms.specs.declared.refusal.Refusal.{Refusal}
 
 pub fault-number-some : (f : Fault) → number_of_fault f ≡ 0 → ⊥
 unfolding number_of_fault
 fault-number-some RuleSize z = omega arith
 fault-number-some RuleRecord z = omega arith
-fault-number-some RuleNumbers z = omega arith
-fault-number-some RuleEntries z = omega arith
+fault-number-some RuleArgument z = omega arith
+fault-number-some RuleFull z = omega arith
 fault-number-some ReportSize z = omega arith
 fault-number-some ReportRecord z = omega arith
-fault-number-some Nesting z = omega arith
-fault-number-some ReportLimits z = omega arith
-fault-number-some Room z = omega arith
-fault-number-some LooksAhead z = omega arith
-fault-number-some State z = omega arith
-fault-number-some Tally z = omega arith
-fault-number-some Text z = omega arith
-fault-number-some TextEntries z = omega arith
+fault-number-some ReportOrder z = omega arith
+fault-number-some ReportFull z = omega arith
+fault-number-some BufferShort z = omega arith
+fault-number-some RuleAhead z = omega arith
+fault-number-some StateBad z = omega arith
+fault-number-some TallyBad z = omega arith
+fault-number-some TextBad z = omega arith
+fault-number-some TextFull z = omega arith
 
 -- The fault with a number.
 abbrev fault_with : ℕ → Fault
 fault_with n =
-    get_or (RuleSize ∷ RuleRecord ∷ RuleNumbers ∷ RuleEntries ∷ ReportSize ∷ ReportRecord ∷ Nesting ∷ ReportLimits ∷ Room ∷ LooksAhead ∷ State ∷ Tally ∷ Text ∷ TextEntries ∷ []) (n - 1) RuleSize
+    get_or (RuleSize ∷ RuleRecord ∷ RuleArgument ∷ RuleFull ∷ ReportSize ∷ ReportRecord ∷ ReportOrder ∷ ReportFull ∷ BufferShort ∷ RuleAhead ∷ StateBad ∷ TallyBad ∷ TextBad ∷ TextFull ∷ []) (n - 1) RuleSize
 
 fault_back : (f : Fault) → fault_with (number_of_fault f) ≡ f
 unfolding number_of_fault
 fault_back RuleSize = refl
 fault_back RuleRecord = refl
-fault_back RuleNumbers = refl
-fault_back RuleEntries = refl
+fault_back RuleArgument = refl
+fault_back RuleFull = refl
 fault_back ReportSize = refl
 fault_back ReportRecord = refl
-fault_back Nesting = refl
-fault_back ReportLimits = refl
-fault_back Room = refl
-fault_back LooksAhead = refl
-fault_back State = refl
-fault_back Tally = refl
-fault_back Text = refl
-fault_back TextEntries = refl
+fault_back ReportOrder = refl
+fault_back ReportFull = refl
+fault_back BufferShort = refl
+fault_back RuleAhead = refl
+fault_back StateBad = refl
+fault_back TallyBad = refl
+fault_back TextBad = refl
+fault_back TextFull = refl
 
 pub fault-only : (f g : Fault) → number_of_fault f ≡ number_of_fault g → f ≡ g
 fault-only f g e = sym (fault_back f) ∙ ap fault_with e ∙ fault_back g

@@ -6,7 +6,7 @@
 -- Laws: proofs/AnswerLaws.antt, proofs/FaultLaws.antt. Assumes nothing.
 use Rattle.std.specs.Prelude.{ℕ, cond, List, [], eqb, Result, Ok, Err}
 use Rattle.terms.specs.declared.refusal.Fault.{Fault}
-use Rattle.terms.specs.declared.refusal.Fault.TheVariants.{RuleSize, RuleRecord, RuleNumbers, RuleEntries, ReportSize, ReportRecord, Nesting, ReportLimits, Room, LooksAhead, State, Tally, Text, TextEntries}
+use Rattle.terms.specs.declared.refusal.Fault.TheVariants.{RuleSize, RuleRecord, RuleArgument, RuleFull, ReportSize, ReportRecord, ReportOrder, ReportFull, BufferShort, RuleAhead, StateBad, TallyBad, TextBad, TextFull}
 use Rattle.terms.specs.declared.refusal.Refusal.{Refusal}
 
 -- A string is accepted, with so many entries or elements, or refused with a number of the document at a place.
@@ -54,18 +54,18 @@ Accepts (Refused number place) = ⊥
 unfoldable pub number_of_fault : Fault → ℕ
 number_of_fault RuleSize = 1
 number_of_fault RuleRecord = 2
-number_of_fault RuleNumbers = 3
-number_of_fault RuleEntries = 4
+number_of_fault RuleArgument = 3
+number_of_fault RuleFull = 4
 number_of_fault ReportSize = 5
 number_of_fault ReportRecord = 6
-number_of_fault Nesting = 7
-number_of_fault ReportLimits = 8
-number_of_fault Room = 9
-number_of_fault LooksAhead = 10
-number_of_fault State = 11
-number_of_fault Tally = 12
-number_of_fault Text = 13
-number_of_fault TextEntries = 14
+number_of_fault ReportOrder = 7
+number_of_fault ReportFull = 8
+number_of_fault BufferShort = 9
+number_of_fault RuleAhead = 10
+number_of_fault StateBad = 11
+number_of_fault TallyBad = 12
+number_of_fault TextBad = 13
+number_of_fault TextFull = 14
 
 -- What a Result of a reader answers.
 abbrev pub answered : Result ℕ Refusal → Answer

@@ -2,7 +2,7 @@
 // a reader the paper's number and values.
 ghost use Rattle.std.specs.Prelude.{◌≡◌};
 
-// The rows of document 01's table of numbers, each with its number.
+// The rows of document 01's table of numbers, each with its number, called as the header calls it.
 #[derive(Clone, Copy)]
 pub enum Fault {
     // a rule of no byte or of too many
@@ -10,29 +10,29 @@ pub enum Fault {
     // a record of a rule that is not whole
     RuleRecord = 2,
     // a label or an entry number that may not stand there
-    RuleNumbers = 3,
+    RuleArgument = 3,
     // an entry more than a rule may have
-    RuleEntries = 4,
+    RuleFull = 4,
     // a report of no byte or of too many
     ReportSize = 5,
     // a record of a report that is not whole, or whose label may not be
     ReportRecord = 6,
     // a second root, a closing with nothing open, or an end with something open
-    Nesting = 7,
+    ReportOrder = 7,
     // a level or an element more than a report may have
-    ReportLimits = 8,
+    ReportFull = 8,
     // what is lent has no room
-    Room = 9,
+    BufferShort = 9,
     // a rule that looks ahead, for one pass
-    LooksAhead = 10,
+    RuleAhead = 10,
     // a state of one pass that is none
-    State = 11,
+    StateBad = 11,
     // a tally that is full or out of balance
-    Tally = 12,
+    TallyBad = 12,
     // no text of a rule
-    Text = 13,
+    TextBad = 13,
     // a text with more entries than a rule may have
-    TextEntries = 14,
+    TextFull = 14,
 }
 
 // Why a byte string is refused, and at which byte.

@@ -27,14 +27,14 @@ fn read_path(text: &[u8], rule: &mut [u8]) -> Result<usize, Refusal>
     let mut rows = [NO_ROW; ROWS];
     let counts = match read_tree(text, &mut rows) {
         Ok(counts) => counts,
-        Err(e) => return Err(Fault::Text.at(e.place)),
+        Err(e) => return Err(Fault::TextBad.at(e.place)),
     };
     let too_many = ENTRIES_MOST < counts.entries;
     if too_many {
-        return Err(Fault::TextEntries.at(0));
+        return Err(Fault::TextFull.at(0));
     }
     if rule.len() < counts.bytes {
-        return Err(Fault::Room.at(0));
+        return Err(Fault::BufferShort.at(0));
     }
     write_rule(&rows, counts.entries, rule);
     Ok(counts.bytes)
