@@ -45,11 +45,7 @@ impl From<Result<bool, Fault>> for StepReply {
 fn looks_back(ahead: bool) -> Result<(), Fault>
     ensures { fault_number result ≡ cond «ahead» 10 0 }
 {
-    if ahead {
-        Err(Fault::RuleAhead)
-    } else {
-        Ok(())
-    }
+    if ahead { Err(Fault::RuleAhead) } else { Ok(()) }
 }
 
 // Opens with an accepted rule of n entries, which give the word w: the last entry's bit is the verdict.
