@@ -8,7 +8,7 @@ pub fn two_bytes(low: u8, high: u8) -> usize
     u16::from_le_bytes([low, high]) as usize
 }
 
-// A number of a column as an index.
+// A number of a column as an index: `usize::from`, with a bound that its callers' proofs cite.
 pub fn wide(x: u16) -> usize
     ensures { (result ≡ x) × (result < 65536) }
 {

@@ -12,7 +12,8 @@ use state::state::{close_state, open_state, start_state, words_of};
 use terms::refusal::{Fault, Refusal};
 use walk::walk::{ask_rule, walk_rule};
 
-// What a call answers: document 01's number, the place, and the verdict.
+// What a call answers: document 01's number, the place, and the verdict. Numbers and no Result: C reads
+// them.
 #[repr(C)]
 #[derive(Clone, Copy)]
 pub struct StepReply {

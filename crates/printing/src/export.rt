@@ -8,7 +8,8 @@ use judge::judge::put_taken;
 use terms::refusal::{Fault, Refusal};
 use text::put::TEXT_BYTES;
 
-// What the call answers: document 01's number, the place, and how many bytes it wrote.
+// What the call answers: document 01's number, the place, and how many bytes it wrote. Numbers and no
+// Result: C reads them.
 #[repr(C)]
 #[derive(Clone, Copy)]
 pub struct PrintReply {

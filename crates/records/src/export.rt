@@ -4,7 +4,8 @@ ghost use Rattle.records.specs.Reply.{RuleRead, ReportRead};
 use reports::elements::read_report;
 use rules::table::read_rule;
 
-// What the rule reader answers: document 01's number, the place, and how many entries.
+// What the rule reader answers: document 01's number, the place, and how many entries. Numbers and no
+// Result, here and below: C reads them.
 #[repr(C)]
 #[derive(Clone, Copy)]
 pub struct RuleReply {

@@ -38,6 +38,7 @@ pub fn read_elements(
     let mut at: usize = 0;
     let mut depth: usize = 0;
     let mut elements: usize = 0;
+    // Left by `break` with the answer, and with counters of its own: the form that document 01 names.
     let answer = loop {
         // At the end; not `==`, so that the compiler knows of every record taken that it begins before it.
         if report.len() <= at {

@@ -45,6 +45,7 @@ pub fn visit_entries<V: Visitor>(rule: &[u8], visitor: &mut V) -> Result<usize, 
     }
     let mut at: usize = 0;
     let mut n: usize = 0;
+    // Left by `break` with the answer, and with counters of its own: the form that document 01 names.
     let answer = loop {
         if at == rule.len() {
             break Ok(n);

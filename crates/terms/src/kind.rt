@@ -41,7 +41,8 @@ pub enum Numbers {
     Entries,
 }
 
-// The row of a kind. Length 0 stands for a number that is no kind: no record is that short.
+// The row of a kind. Length 0 stands for a number that is no kind: no record is that short. (No Option: all
+// callers but one hold a kind that was taken, and would have to make up a row for None.)
 #[derive(Clone, Copy)]
 pub struct Row {
     pub length: usize,

@@ -9,7 +9,8 @@ use parse::tree::{NO_ROW, ROWS, read_tree};
 use terms::limits::ENTRIES_MOST;
 use terms::refusal::{Fault, Refusal};
 
-// What the call answers: the number, the place, and how many bytes it wrote.
+// What the call answers: the number, the place, and how many bytes it wrote. Numbers and no Result: C reads
+// them.
 #[repr(C)]
 #[derive(Clone, Copy)]
 pub struct PathReply {

@@ -6,7 +6,8 @@ use crate::visitors::{Looking, Stepping};
 use rules::visit::visit_entries;
 use terms::refusal::Refusal;
 
-// What a walk gives: the rule's answer; of the entries read, whether one looks ahead, and the word.
+// What a walk gives: the rule's answer; of the entries read, whether one looks ahead, and the word. Beside
+// the answer and not in its Ok, since the promise tells them of a refused rule too.
 #[derive(Clone, Copy)]
 pub struct Walk {
     pub answer: Result<usize, Refusal>,
