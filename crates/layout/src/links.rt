@@ -3,8 +3,6 @@ ghost use Rattle.std.specs.Prelude.{◌≡◌, length};
 ghost use Rattle.grammar.specs.Legal.{LegalLevels};
 ghost use Rattle.layout.specs.Links.{Linked};
 
-use numbers::bytes::wide;
-
 // A place for each level, the one above the first and the one below the last.
 const HELD: usize = 66;
 
@@ -19,7 +17,7 @@ pub(crate) fn link(levels: &[u16], ups: &mut [u16], lefts: &mut [u16])
 {
     let mut held = [0u16; HELD];
     for (s, level) in levels.iter().enumerate() {
-        let d = wide(*level);
+        let d = *level as usize;
         ups[s] = held[d];
         lefts[s] = held[d + 1];
         held[d + 1] = s as u16;

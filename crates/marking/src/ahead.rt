@@ -8,7 +8,6 @@ ghost use Rattle.marking.specs.Pass.{Passed, Room, bits_of};
 ghost use Rattle.marking.specs.Steps.{ahead_mark, Nearest};
 
 use crate::asked::{Asked, Column};
-use numbers::bytes::wide;
 use steps::ahead::{AskedAhead, given_at, own_at};
 use steps::word::{bit_where, low_with_bit, put_bit, put_low_bit};
 
@@ -26,7 +25,7 @@ pub(crate) fn turn_pass(way: AskedAhead, asked: Asked, column: Column, marks: &m
         let w = marks[t];
         let own = own_at(way, a, b, i, next == t, w);
         marks[t] = low_with_bit(w, i, own);
-        next = wide(f[t]);
+        next = f[t] as usize;
         let given = given_at(way, a, next < t, own, w);
         marks[next] = put_bit(marks[next], i, given);
     }
@@ -40,7 +39,7 @@ pub(crate) fn gather_pass(asked: Asked, column: Column, marks: &mut [u64])
 {
     let Asked { a, i, .. } = asked;
     for (s, p) in column.numbers.iter().enumerate() {
-        let p = wide(*p);
+        let p = *p as usize;
         let given = bit_where(marks[s], a, p < s);
         marks[p] = put_low_bit(marks[p], i, given);
     }

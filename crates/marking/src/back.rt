@@ -6,7 +6,6 @@ ghost use Rattle.marking.specs.Pass.{Passed, Room, bits_of};
 ghost use Rattle.marking.specs.Steps.{along_mark};
 
 use crate::asked::{Asked, Column};
-use numbers::bytes::wide;
 use steps::back::back_word;
 
 // Entry i at every element, from the first on: each has its mark before one that leads to it. `until` is
@@ -17,7 +16,7 @@ pub(crate) fn back_pass(until: bool, asked: Asked, column: Column, marks: &mut [
 {
     let Asked { a, b, i } = asked;
     for (s, p) in column.numbers.iter().enumerate() {
-        let p = wide(*p);
+        let p = *p as usize;
         marks[s] = back_word(until, a, b, i, p < s, marks[p], marks[s]);
     }
 }

@@ -15,7 +15,6 @@ use crate::asked::{Asked, Column, Elements};
 use crate::back::back_pass;
 use crate::local::local_pass;
 use entry::entry::Entry;
-use numbers::bytes::wide;
 use steps::ahead::AskedAhead;
 use steps::column::column;
 use terms::kind::{Axis, Shape, leads_back, row_of};
@@ -71,10 +70,10 @@ pub(crate) fn mark_entries(entries: &[Entry], elements: Elements, marks: &mut [u
     ensures { (levels : List ℕ) → ColumnsOf levels elements.entry → Stored (length levels) (word_of entries.now levels elements.entry.labels.now) marks.old marks.new }
 {
     for (i, entry) in entries.iter().enumerate() {
-        let row = row_of(wide(entry.kind));
+        let row = row_of(entry.kind as usize);
         let shape = row.shape;
-        let a = wide(entry.a);
-        let b = wide(entry.b);
+        let a = entry.a as usize;
+        let b = entry.b as usize;
         mark_entry(shape, a, b, i, elements, marks);
     }
 }

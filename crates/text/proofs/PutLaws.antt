@@ -76,11 +76,11 @@ unfolding element_lines listed flatten put_at
 elements-none labels levels verdicts w = record { put = record { next_is = sym (add-zero w.at); bytes_are = refl }; same_buffer = refl }
 
 -- One turn of the loop over the elements: the lines of the first k have been put, and element k's is.
-pub elements-turn : (labels levels : List ℕ) (verdicts : ℕ → Bool) {w mid after : Writer} {k label level : ℕ} {verdict : Bool}
-    → label ≡ get_or labels k 0 → level ≡ get_or levels k 0 → verdict ≡ verdicts k
-    → Writes (flatten (element_lines labels levels verdicts k)) w mid → Writes (element_line k label level verdict) mid after
+pub elements-turn : (labels levels : List ℕ) (verdicts : ℕ → Bool) {w mid after : Writer} {k : ℕ} {verdict : Bool} → verdict ≡ verdicts k
+    → Writes (flatten (element_lines labels levels verdicts k)) w mid
+    → Writes (element_line k (get_or labels k 0) (get_or levels k 0) verdict) mid after
     → Writes (flatten (element_lines labels levels verdicts (k + 1))) w after
-elements-turn labels levels verdicts {k = k} l d v p q = writes_as (rw (l, d, v) (sym (elements-more labels levels verdicts k))) (writes_then p q)
+elements-turn labels levels verdicts {k = k} v p q = writes_as (rw v (sym (elements-more labels levels verdicts k))) (writes_then p q)
 
 -- A text that is written from the front of a buffer that has room for it.
 pub writes-rendered : {text after : List ℕ} {w end : Writer} → w.at ≡ 0 → length text ≤ buffer_size → Writes text w end → end.out.now ≡ after

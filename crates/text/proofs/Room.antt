@@ -10,7 +10,7 @@ use mathlib.Core.Bool.{Bool, true, false}
 use mathlib.Core.List.{List, [], ◌∷◌, ◌++◌, flatten}
 use lib.ListN.{length, get_or, length-append}
 use Rattle.text.specs.Decimal.{decimal}
-use Rattle.text.specs.Rendered.{buffer_size, clamped}
+use Rattle.text.specs.Rendered.{buffer_size, clamped, Put}
 use Rattle.text.specs.Text.{ascii, space, line_feed, field, phrase, header_line, element_line, closing_line, line_of, element_lines, accepted_text}
 use Rattle.text.proofs.DecimalLaws.{decimal-short}
 use Rattle.terms.specs.Limits.{elements_most}
@@ -58,6 +58,15 @@ element-short element label level verdict e l v =
       field-short 4 level space (omega arith),
       field-short 0 (bit verdict) line_feed (bit-small verdict),
     )
+
+-- So it has room where 19 bytes have, and ends 19 bytes on at most.
+pub element-room : (at : ℕ) {element label level : ℕ} (verdict : Bool) → at + 19 ≤ buffer_size → element < elements_most → label < 65536 → level < 65536
+    → at + length (element_line element label level verdict) ≤ buffer_size
+element-room at {element} {label} {level} verdict h e l v = omega (arith, element-short element label level verdict e l v)
+
+pub element-ends : {out after : List ℕ} {at r element label level : ℕ} (verdict : Bool) → Put (element_line element label level verdict) out at r after
+    → element < elements_most → label < 65536 → level < 65536 → r ≤ at + 19
+element-ends {element = element} {label} {level} verdict p e l v = omega (arith, p.next_is, element-short element label level verdict e l v)
 
 -- Two words with numbers of 64 bits behind them have 42 bytes at most beside the words.
 pub phrase-short : (first second : List ℕ) (x y : ℕ) → x < 2 ^ 64 → y < 2 ^ 64 → length (phrase first x second y) ≤ length first + length second + 42

@@ -7,7 +7,6 @@ ghost use Rattle.terms.specs.Limits.{elements_most};
 
 use crate::put::{TEXT_BYTES, Writer};
 use numbers::bits::bit_at;
-use numbers::bytes::wide;
 use terms::limits::ELEMENTS_MOST;
 
 impl<'a> Writer<'a> {
@@ -37,7 +36,9 @@ impl<'a> Writer<'a> {
         ensures ends { self.new.at ≤ self.old.at + 19 * elements }
     {
         for i in 0..elements {
-            self.put_element(i, wide(labels[i]), wide(levels[i]), bit_at(marks[i], last));
+            let label = labels[i] as usize;
+            let level = levels[i] as usize;
+            self.put_element(i, label, level, bit_at(marks[i], last));
         }
     }
 }

@@ -12,7 +12,7 @@ pub loop-s-preserved : goal.loop-s-preserved
 loop-s-preserved c =
     let l = c.loop-s in
     let t = c.loop-s-test.true in
-    rw (c.put_low_bit.ensures, mod-eq_of_lt c.bit_where-given.ensures.1, c.bit_where-given.ensures.0, c.wide-p.ensures.0, own_in c.requires, earlier-in c.requires c.args.asked.earlier.0)
+    rw (c.put_low_bit.ensures, mod-eq_of_lt c.bit_where-given.ensures.1, c.bit_where-given.ensures.0, own_in c.requires, earlier-in c.requires c.args.asked.earlier.0)
     (gather-turn _ _ _ c.requires c.args.asked.earlier.0 l.s t (c.args.column.not_past l.s t) l.invariant)
 
 pub returns : goal.returns

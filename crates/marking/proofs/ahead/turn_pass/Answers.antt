@@ -14,5 +14,5 @@ loop-t-preserved c =
     let l = c.loop-t in
     let pre = c.requires in
     let h : l.t - 1 < length c.args.column.numbers.now = omega arith in
-    rw (c.put_bit.ensures, c.given_at-given.ensures, c.low_with_bit.ensures, c.own_at-own.ensures, c.wide-next.ensures.0, own_in pre.room, earlier-in pre.room c.args.asked.earlier.0, earlier-in pre.room c.args.asked.earlier.1)
+    rw (c.put_bit.ensures, c.given_at-given.ensures, c.low_with_bit.ensures, c.own_at-own.ensures, own_in pre.room, earlier-in pre.room c.args.asked.earlier.0, earlier-in pre.room c.args.asked.earlier.1)
     (ahead-turn _ _ _ _ _ pre.room c.args.asked.earlier.0 c.args.asked.earlier.1 pre.nearest (l.t - 1) h (ahead_before _ _ _ _ _ (omega arith) l.invariant) (c.args.column.not_past (l.t - 1) h))

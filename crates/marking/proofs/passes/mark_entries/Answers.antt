@@ -11,8 +11,7 @@ mark_entry-requires c =
     let l = c.loop-i in
     let p = c.args in
     let q = c.requires in
-    let row = rw c.wide.ensures.0 at c.row_of-row.ensures in
-    rw (c.wide-b.ensures.0, c.wide-a.ensures.0, row)
+    rw c.row_of-row.ensures
     record {
       earlier = entry_fits p.entries.now q.rule_entries l.i c.loop-i-test.true;
       room = words-room q.columns.0 p.elements.labels.now _ q.columns.1 q.room (omega (arith, q.rule_entries.few)) (l.invariant q.columns.0 q.columns.1);
@@ -24,8 +23,7 @@ loop-i-preserved c =
     let l = c.loop-i in
     let p = c.args in
     let q = c.requires in
-    let row = rw c.wide.ensures.0 at c.row_of-row.ensures in
-    let e = rw (c.wide-b.ensures.0, c.wide-a.ensures.0, row) at c.mark_entry.ensures in
+    let e = rw c.row_of-row.ensures at c.mark_entry.ensures in
     λ levels columns. entry-turn levels p.elements.labels.now p.entries.now q.rule_entries l.i c.loop-i-test.true (l.invariant levels columns) (e levels columns)
 
 pub returns : goal.returns
