@@ -61,6 +61,7 @@ fn whole_entry(row: Row, own: usize, e: Entry, next: usize) -> Result<Taken, Fau
 }
 
 // Takes the record at an offset as entry `own`.
+#[inline(always)]
 pub fn take_entry(s: &[u8], own: usize, at: usize) -> Result<Taken, Fault>
     ensures { EntryTaken s.now own at result }
 {

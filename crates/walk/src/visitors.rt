@@ -22,6 +22,7 @@ pub struct Stepping {
 impl Visitor for Stepping {
     ghost then = { stepped };
 
+    #[inline(always)]
     fn see(&mut self, n: usize, e: Entry) {
         let row = row_of(e.kind as usize);
         let shape = row.shape;
@@ -50,6 +51,7 @@ pub struct Looking {
 impl Visitor for Looking {
     ghost then = { looked };
 
+    #[inline(always)]
     fn see(&mut self, n: usize, e: Entry) {
         let asked = row_of(e.kind as usize);
         self.ahead = self.ahead | !looks_back(asked.shape);
