@@ -9,24 +9,27 @@ use lib.Seq.{length-sets}
 use Rattle.numbers.specs.Lists.{put_at}
 use Rattle.entry.specs.declared.entry.Entry.{Entry}
 use Rattle.grammar.specs.Rules.{record_of, rule_bytes}
+use Rattle.text.specs.Rendered.{Put}
 use Rattle.text.proofs.PutLaws.{put-none, put_then, put_as}
 use Rattle.spell.specs.declared.own.Written.{Written}
+use Rattle.spell.specs.declared.put.Writer.{Writer}
 use Rattle.spell.specs.Promises.{written, RoomFor, Spelt, Adds}
+use Rattle.spell.specs.Writing.{Spells}
 
 -- ---- records
 
--- A list that is spelt like another has room where that has, and is put where that is.
-module _ {es fs : List Entry} (e : rule_bytes es ≡ rule_bytes fs) {rule : List ℕ} {at : ℕ} where
-  pub room_as : RoomFor es rule at → RoomFor fs rule at
-  room_as a = record { enough = omega (arith, a.enough, ap length e) }
+-- A list that is spelt like another has room where that has,
+pub room_as : {es fs : List Entry} {rule : List ℕ} {at : ℕ} → rule_bytes es ≡ rule_bytes fs → RoomFor es rule at → RoomFor fs rule at
+room_as e a = record { enough = omega (arith, a.enough, ap length e) }
 
-  pub spelt-as : {after : List ℕ} {r : ℕ} → Spelt fs rule at r after → Spelt es rule at r after
-  spelt-as p = record { bytes_are = put_as (sym e) p.bytes_are }
+-- and where the writer has put that, it has put the list.
+pub spells-as : {es fs : List Entry} {w after : Writer} → rule_bytes es ≡ rule_bytes fs → Spells fs w after → Spells es w after
+spells-as e p = record { spelt = record { bytes_are = put_as (sym e) p.spelt.bytes_are }; same_buffer = p.same_buffer }
 
--- A buffer that records are put into is as long as it was.
-spelt-length : {es : List Entry} {rule after : List ℕ} {at r : ℕ} → Spelt es rule at r after → length after ≡ length rule
+-- A buffer that bytes are put into is as long as it was.
+pub put-length : {bytes rule after : List ℕ} {at r : ℕ} → Put bytes rule at r after → length after ≡ length rule
 unfolding put_at
-spelt-length {es} {rule} {at = at} p = ap length p.bytes_are.bytes_are ∙ length-sets rule at (rule_bytes es)
+put-length {bytes} {rule} {at = at} p = ap length p.bytes_are ∙ length-sets rule at bytes
 
 -- The bytes of one entry are its record.
 pub one-bytes : (e : Entry) → rule_bytes (e ∷ []) ≡ record_of e
@@ -49,7 +52,7 @@ module _ {e : Entry} {es : List Entry} {rule : List ℕ} {at : ℕ} where
   module _ {rule₁ : List ℕ} {r : ℕ} (p : Spelt (e ∷ []) rule at r rule₁) where
     -- once it is put, for the others;
     pub room_next : RoomFor (e ∷ es) rule at → RoomFor es rule₁ r
-    room_next a = record { enough = omega (arith, a.enough, more-length e es, p.bytes_are.next_is, spelt-length p) }
+    room_next a = record { enough = omega (arith, a.enough, more-length e es, p.bytes_are.next_is, put-length p.bytes_are) }
 
     -- and once these are, all are put.
     pub spelt-next : {rule₂ : List ℕ} {s : ℕ} → Spelt es rule₁ r s rule₂ → Spelt (e ∷ es) rule at s rule₂

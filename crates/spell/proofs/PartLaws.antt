@@ -57,11 +57,11 @@ module _ (form argument : ℕ) (rule : List ℕ) (w : Written) (e : part_fits fo
   fits-room = record { enough = omega (arith, known.1, ((true-iff (fits-tests form (length rule) w)).0 e).1, (bytes-few form).0) }
 
   -- and the own entries are what is added;
-  pub fits-adds : {rule₁ : List ℕ} {own end entries bytes : ℕ} → own ≡ form_entries form
-      → Spelt (own_entries form argument w.entries) rule w.bytes end rule₁ → entries ≡ w.entries + own → bytes ≡ end
-      → PartPut form argument rule w rule₁ (written entries bytes)
+  pub fits-adds : {rule₁ rule₂ : List ℕ} {own end entries bytes : ℕ} → own ≡ form_entries form
+      → Spelt (own_entries form argument w.entries) rule w.bytes end rule₁ → rule₁ ≡ rule₂ → entries ≡ w.entries + own → bytes ≡ end
+      → PartPut form argument rule w rule₂ (written entries bytes)
   unfolding added
-  fits-adds o p n b = rw e (record { count_is = omega (arith, n, o, known.0); spelt = rw b p })
+  fits-adds o p r n b = rw e (record { count_is = omega (arith, n, o, known.0); spelt = rw (b, ← r) p })
 
 -- where it fails, nothing is.
 pub misfit-adds : (form argument : ℕ) (rule : List ℕ) (w : Written) → part_fits form (length rule) w ≡ false

@@ -2,11 +2,11 @@
 ghost use Rattle.std.specs.Prelude.{◌≡◌, ◌≤◌};
 ghost use Rattle.terms.specs.Limits.{entries_most};
 ghost use Rattle.spell.specs.Forms.{own_entries};
-ghost use Rattle.spell.specs.Promises.{written, part_fits, RoomFor, Spelt, PartPut};
+ghost use Rattle.spell.specs.Promises.{written, part_fits, RoomFor, PartPut};
+ghost use Rattle.spell.specs.Writing.{Spells};
 
 use crate::form::{own_bytes, own_entries};
-use crate::put::{last, put_record};
-use crate::step::{put_beside, put_down, put_star};
+use crate::put::{Writer, last};
 use terms::limits::ENTRIES_MOST;
 
 // Forms count from 1 to so many.
@@ -32,17 +32,19 @@ fn fits(room: usize, entries: u16, bytes: usize, form: u16) -> bool
         & (own_bytes(form) as usize <= room.saturating_sub(bytes))
 }
 
-// The own entries behind n, where they fit. The record of a form up to 9 is of that kind, and has as
-// many of the two numbers as the kind.
-fn put_own(rule: &mut [u8], at: usize, n: u16, form: u16, argument: u16) -> usize
-    requires { (n ≤ entries_most) × RoomFor (own_entries form argument n) rule.old at }
-    ensures { Spelt (own_entries form argument n) rule.old at result rule.new }
-{
-    match form {
-        0..=9 => put_record(rule, at, form, argument, last(n)),
-        10..=13 => put_star(rule, at, n, form, argument),
-        14 => put_down(rule, at, n, argument),
-        _ => put_beside(rule, at, n, form, argument),
+impl<'a> Writer<'a> {
+    // The own entries behind n, where they fit. The record of a form up to 9 is of that kind, and has as
+    // many of the two numbers as the kind.
+    fn put_own(&mut self, n: u16, form: u16, argument: u16)
+        requires { (n ≤ entries_most) × RoomFor (own_entries form argument n) self.old.out.now self.old.at }
+        ensures { Spells (own_entries form argument n) self.old self.new }
+    {
+        match form {
+            0..=9 => self.put_record(form, argument, last(n)),
+            10..=13 => self.put_star(n, form, argument),
+            14 => self.put_down(n, argument),
+            _ => self.put_beside(n, form, argument),
+        }
     }
 }
 
@@ -53,10 +55,14 @@ pub fn put_part(rule: &mut [u8], entries: u16, bytes: usize, form: u16, argument
     ensures { PartPut form argument rule.old (written entries bytes) rule.new result }
 {
     if fits(rule.len(), entries, bytes, form) {
-        let end = put_own(rule, bytes, entries, form, argument);
+        let mut records = Writer {
+            out: rule,
+            at: bytes,
+        };
+        records.put_own(entries, form, argument);
         return Written {
             entries: entries + own_entries(form),
-            bytes: end,
+            bytes: records.at,
         };
     }
     Written { entries, bytes }

@@ -1,10 +1,9 @@
-// Records put into the buffer, one behind the other: each function answers the offset past what it
-// put.
+// Records put into the buffer, one behind the other.
 ghost use Rattle.std.specs.Prelude.{◌≡◌, [], ◌∷◌, ◌+◌, ◌≤◌, pred, length};
 ghost use Rattle.numbers.specs.Bytes.{two_bytes};
-ghost use Rattle.text.specs.Rendered.{Put};
 ghost use Rattle.paths.specs.Translation.{entry};
-ghost use Rattle.spell.specs.Promises.{numbers, RoomFor, Spelt};
+ghost use Rattle.spell.specs.Promises.{numbers, RoomFor};
+ghost use Rattle.spell.specs.Writing.{Writes, Spells};
 
 use terms::kind::row_of;
 
@@ -15,40 +14,49 @@ pub fn last(entries: u16) -> u16
     entries.saturating_sub(1)
 }
 
-// A number, the low byte first.
-fn put_number(rule: &mut [u8], at: usize, x: u16) -> usize
-    requires { at + 2 ≤ length rule.old }
-    ensures { Put (two_bytes x) rule.old at result rule.new }
-{
-    let [low, high] = x.to_le_bytes();
-    rule[at] = low;
-    rule[at + 1] = high;
-    at + 2
+// The lent buffer, and the offset at which the next byte goes.
+#[derive(Drop)]
+pub(crate) struct Writer<'a> {
+    pub(crate) out: &'a mut [u8],
+    pub(crate) at: usize,
 }
 
-// Of two numbers as many as a record of its kind has.
-fn put_body(rule: &mut [u8], at: usize, arguments: usize, a: u16, b: u16) -> usize
-    requires { at + length (numbers arguments a b) ≤ length rule.old }
-    ensures { Put (numbers arguments a b) rule.old at result rule.new }
-{
-    let none = arguments == 0;
-    if none {
-        return at;
+impl<'a> Writer<'a> {
+    // A number, the low byte first.
+    fn put_number(&mut self, x: u16)
+        requires { self.old.at + 2 ≤ length self.old.out.now }
+        ensures { Writes (two_bytes x) self.old self.new }
+    {
+        let [low, high] = x.to_le_bytes();
+        self.out[self.at] = low;
+        self.out[self.at + 1] = high;
+        self.at += 2;
     }
-    let next = put_number(rule, at, a);
-    if arguments == 1 {
-        return next;
-    }
-    put_number(rule, next, b)
-}
 
-// One entry's record; a number that the kind does not have is not put.
-pub(crate) fn put_record(rule: &mut [u8], at: usize, kind: u16, a: u16, b: u16) -> usize
-    requires { RoomFor (entry kind a b ∷ []) rule.old at }
-    ensures { Spelt (entry kind a b ∷ []) rule.old at result rule.new }
-{
-    let row = row_of(kind as usize);
-    let own = put_number(rule, at, row.length as u16);
-    let body = put_number(rule, own, kind);
-    put_body(rule, body, row.arguments, a, b)
+    // Of two numbers as many as a record of its kind has.
+    fn put_body(&mut self, arguments: usize, a: u16, b: u16)
+        requires { self.old.at + length (numbers arguments a b) ≤ length self.old.out.now }
+        ensures { Writes (numbers arguments a b) self.old self.new }
+    {
+        let none = arguments == 0;
+        if none {
+            return;
+        }
+        self.put_number(a);
+        if arguments == 1 {
+            return;
+        }
+        self.put_number(b);
+    }
+
+    // One entry's record; a number that the kind does not have is not put.
+    pub(crate) fn put_record(&mut self, kind: u16, a: u16, b: u16)
+        requires { RoomFor (entry kind a b ∷ []) self.old.out.now self.old.at }
+        ensures { Spells (entry kind a b ∷ []) self.old self.new }
+    {
+        let row = row_of(kind as usize);
+        self.put_number(row.length as u16);
+        self.put_number(kind);
+        self.put_body(row.arguments, a, b);
+    }
 }

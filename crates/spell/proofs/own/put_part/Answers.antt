@@ -1,12 +1,13 @@
 -- `put_part` puts the own entries where they fit, and else nothing. Assumes nothing.
 use native.Mathlib.Omega.{arith}
 use mathlib.Core.Path.{refl, sym, ◌∙◌}
+use borrow.Author.Rules.{rules}
 use Rattle.spell.specs.Promises.{written}
 use Rattle.spell.proofs.PartLaws.{fits-few, fits-room, fits-adds, misfit-adds}
 use Rattle.spell.proofs.own.put_part.Goals as goal
 
-pub put_own-end-requires : goal.put_own-end-requires
-put_own-end-requires c =
+pub put_own-requires : goal.put_own-requires
+put_own-requires c =
     let a = c.args in
     let e = sym c.fits.ensures ∙ c.if-fits.true in
     let w = written a.entries a.bytes in
@@ -23,7 +24,7 @@ returns-then-fits c =
     let a = c.args in
     let e = sym c.fits.ensures ∙ c.if-fits.true in
     let w = written a.entries a.bytes in
-    fits-adds a.form a.argument a.rule.now w e c.own_entries.ensures c.put_own-end.ensures refl refl
+    fits-adds a.form a.argument a.rule.now w e c.own_entries.ensures c.put_own.ensures.spelt (search rules) refl refl
 
 pub returns : goal.returns
 returns c =
