@@ -14,7 +14,8 @@ pub fn bad_size(size: usize) -> bool
     size != STATE_BYTES
 }
 
-// Whether one with these numbers is, and with these bytes at 6 and 7.
+// Whether one with these numbers is, and with these bytes at 6 and 7. Plain numbers and no struct of them: this
+// crate knows of no state in which they would stand together.
 pub fn bad_fields(depth: usize, elements: usize, root: usize, six: u8, seven: u8) -> bool
     ensures { result ≡ bad_fields depth elements root six seven }
 {

@@ -18,7 +18,8 @@ pub struct PrintReply {
     pub written: u32,
 }
 
-// What C is told of an answer: how many bytes were written, or the refusal's number and place.
+// What C is told of an answer: how many bytes were written, or the refusal's number and place. A function and
+// no `From`, which could not ask that the numbers fit.
 fn told(answer: Result<usize, Refusal>) -> PrintReply
     requires place_fits { place_of (answered answer) < 2 ^ 32 }
     requires count_fits { count_of (answered answer) < 2 ^ 32 }

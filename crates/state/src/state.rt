@@ -35,7 +35,7 @@ fn find_words(state: &[u8]) -> Option<Words>
     })
 }
 
-// The same, where a word that there is not is 0.
+// The same, where a word that there is not is 0: so it is promised, and no Option is.
 pub fn words_of(state: &[u8]) -> Words
     ensures { WordsRead state.now result }
 {

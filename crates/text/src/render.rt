@@ -43,7 +43,7 @@ impl<'a> Writer<'a> {
     }
 }
 
-// Puts `refused N at P`.
+// Puts `refused N at P`. A number and no fault: what is printed is a number, and any is promised.
 pub fn put_refused(out: &mut [u8; TEXT_BYTES], number: u32, place: usize) -> usize
     ensures { Rendered (refused_line number place) out.old result out.new }
 {
