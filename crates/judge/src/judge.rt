@@ -5,7 +5,7 @@ ghost use Rattle.judge.specs.Output.{TakenPut, printout_of_both, printout_of};
 use crate::split::split;
 use marking::report::mark_report;
 use terms::limits::ELEMENTS_MOST;
-use terms::refusal::Refusal;
+use terms::refusal::{Fault, Refusal};
 use text::put::TEXT_BYTES;
 use text::render::{put_accepted, put_refused};
 
@@ -56,6 +56,6 @@ pub fn put_printout(input: &[u8], out: &mut [u8; TEXT_BYTES]) -> usize
 {
     match split(input) {
         Some((rule, report)) => put_halves(rule, report, out),
-        None => put_refused(out, 1, 0),
+        None => put_refused(out, Fault::RuleSize.into(), 0),
     }
 }

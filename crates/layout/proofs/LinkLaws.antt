@@ -10,7 +10,7 @@ use mathlib.Core.List.{List, [], ◌∷◌}
 use mathlib.Core.Logic.{⊎_elim}
 use mathlib.Core.Option.{Option, none, some}
 use borrow.Author.Tests.{lt-ltb, le-ltb, le-leb, ne_eqb}
-use lib.ListN.{length, get_or, set, drop, replicate, length-set, length-drop, length-replicate, get_or-eq_default}
+use lib.ListN.{length, get_or, set, drop, length-set, get_or-eq_default}
 use lib.Seq.{get_or-set_same, get_or-set_other}
 use Rattle.grammar.specs.Legal.{LegalLevels}
 use Rattle.numbers.proofs.Tells.{ltb-tests}
@@ -219,17 +219,6 @@ get_d_front : (held : List ℕ) (k v : ℕ) → get_or (set held (suc k) v) 0 0 
 get_d_front [] k v = refl
 get_d_front (x ∷ xs) k v = refl
 
-pub more-start : (levels ups lefts : List ℕ) → length ups ≡ length levels → length lefts ≡ length levels
-    → LinkMore levels ups lefts (replicate 66 0) 0
-more-start levels ups lefts u f =
-    record {
-      depth = 0;
-      mid = link_start levels ups lefts (drop 1 (replicate 66 0)) u f (omega (arith, length-drop 1 (replicate {A = ℕ} 66 0), length-replicate {A = ℕ} 66 0));
-      long = length-replicate {A = ℕ} 66 0;
-      base = refl;
-      top = refl;
-    }
-
 -- A place past those held may have anything.
 unheld : {levels ups lefts held : List ℕ} {depth s : ℕ} (v : ℕ) → LinkMid levels ups lefts held depth s
     → LinkMid levels ups lefts (set held depth v) depth s
@@ -281,18 +270,6 @@ module _ {levels ups lefts held : List ℕ} {s : ℕ} (legal : LegalLevels level
   pub more-turn-at : (p q r : ℕ) → p ≡ suc at → q ≡ suc (suc at) → r ≡ suc s
       → LinkMore levels (set ups s (get_or held at 0)) (set lefts s (get_or held p 0)) (set (set held p s) q r) r
   more-turn-at p q r a b e = rw (a, b, e) (rw (add-one s) at more_turn)
-
--- At the end the columns are linked.
-pub link-end : {levels ups lefts held : List ℕ} {depth s : ℕ} → length levels ≤ s → LinkMid levels ups lefts held depth s
-    → Linked levels ups lefts
-link-end {levels} {ups} {lefts} {held} {depth} {s} h mid =
-    let e : s ≡ length levels = omega (arith, mid.within) in
-    record {
-      ups_long = mid.ups_long;
-      lefts_long = mid.lefts_long;
-      ups_lead = rw e at mid.ups_lead;
-      lefts_lead = rw e at mid.lefts_lead;
-    }
 
 -- ---- the columns everywhere
 

@@ -236,8 +236,3 @@ module _ (asked : AskedAhead) (f before : List ℕ) (a b : ℕ) where
               next_is = get_d_any f t 0 (length f) l;
               passed = passed-same room (λ s h. gathers s ∙ turned s) (passed-join room passed₁ p (omega arith) on);
             }
-
-  -- At the end every element has its mark.
-  pub ahead-end : {i : ℕ} {after : List ℕ} {next : ℕ} → Room (length f) i before → AheadMid i after next 0
-      → Passed (length f) i marks before after
-  ahead-end room mid = passed-same room (λ s l. rw (le-ltb s 0 (omega arith))) mid.passed

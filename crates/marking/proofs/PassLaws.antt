@@ -1,6 +1,6 @@
 -- Laws of the words that a pass stores: one word more, the bits of a word in the midst of a pass, passes from the first element on.
 -- Assumes nothing.
-use Prim.Native.Nat.{ℕ, ◌+◌, ◌*◌, ◌^◌, ◌%◌, ◌≤◌, ◌<◌}
+use Prim.Native.Nat.{ℕ, ◌+◌, ◌*◌, ◌^◌, ◌%◌, ◌<◌}
 use native.Mathlib.Decide.{ℕ_discrete, dec_lt}
 use native.Mathlib.Nat.{zero-mul, zero-add, mod-eq_of_lt}
 use native.Mathlib.Omega.{arith}
@@ -10,11 +10,10 @@ use mathlib.Core.List.{List}
 use borrow.Author.Tests.{lt-ltb, le-ltb, eq-eqb, ne_eqb}
 use lib.Bits.{bit_or}
 use lib.Dec.{ltb, eqb}
-use lib.ListN.{length, get_or, set, replicate, length-set, length-replicate, get_or-replicate}
+use lib.ListN.{length, get_or, set, length-set}
 use lib.Pow.{low}
 use lib.Seq.{get_or-set_same, get_or-set_other}
 use Rattle.marking.specs.Pass.{Stored, Passed, Room, bits_of}
-use Rattle.terms.specs.Limits.{elements_most}
 use Rattle.numbers.specs.Bits.{bit, bit_at, in_word}
 use Rattle.numbers.specs.Lists.{listed}
 use Rattle.numbers.proofs.Lists.{listed-length, listed_at}
@@ -49,16 +48,6 @@ module _ (n : ℕ) (before : List ℕ) where
               | no ne ↦ rw (ne_eqb s t ne) (get_or-set_other after t s v 0 ne ∙ r.put s m)
             ];
       }
-
--- Words that are 0 have room for entry 0.
-pub clear_room : {n : ℕ} {ws : List ℕ} (k : ℕ) → ws ≡ replicate k 0 → k ≡ n → n ≤ elements_most → Room n 0 ws
-clear_room k e l few =
-    record {
-      few = few;
-      all = ap length e ∙ length-replicate k 0 ∙ l;
-      top = omega arith;
-      small = λ s h. rw (e, get_or-replicate {A = ℕ} k s 0 0 (omega arith)) (omega arith);
-    }
 
 -- ---- a pass for entry i
 
@@ -138,10 +127,6 @@ abbrev pub before-only : (ℕ → Bool) → ℕ → ℕ → Bool
 before-only m k s = ltb s k && m s
 
 module _ {n i : ℕ} {before : List ℕ} (room : Room n i before) (m : ℕ → Bool) where
-  -- No element yet.
-  pub ascent-start : Passed n i (before-only m 0) before before
-  ascent-start = passed-same room (λ s l. rw (le-ltb s 0 (omega arith))) (passed_start room)
-
   -- One element more.
   pub ascent-turn : {after : List ℕ} (k : ℕ) (on : Bool) → k < n → on ≡ m k → Passed n i (before-only m k) before after
       → Passed n i (before-only m (k + 1)) before (set after k (bit_or (get_or after k 0) (bit on * 2 ^ i)))
@@ -159,7 +144,3 @@ module _ {n i : ℕ} {before : List ℕ} (room : Room n i before) (m : ℕ → B
               | yes h ↦ lt-ltb s k h ∙ sym (lt-ltb s (k + 1) (omega arith))
               | no h ↦ le-ltb s k (omega arith) ∙ sym (le-ltb s (k + 1) (omega arith))
             ]
-
-  -- Every element.
-  pub ascent-end : {after : List ℕ} (k : ℕ) → n ≤ k → Passed n i (before-only m k) before after → Passed n i m before after
-  ascent-end k h r = passed-same room (λ s l. rw (lt-ltb s k (omega arith))) r

@@ -17,8 +17,7 @@ use Rattle.state.specs.Front.{bad_front, FrontRead, WordsFound}
 use Rattle.fields.specs.Fields.{state_size, bad_size, present_word}
 use Rattle.fields.proofs.FieldLaws.{size-iff, size-passed}
 use Rattle.std.specs.Prelude.{Result, Ok, Err, Some}
-use Rattle.std.specs.Result.{IsErrAnd}
-use Rattle.terms.specs.Answer.{number_of_fault, fault_number}
+use Rattle.terms.specs.Answer.{number_of_fault}
 use Rattle.terms.specs.declared.refusal.Fault.{Fault}
 use Rattle.terms.specs.declared.refusal.Fault.TheVariants.{StateBad}
 use Rattle.state.specs.State.{depth_in, elements_in, root_in, presence_in, open_place, last_place, state_of, bad, Good}
@@ -110,11 +109,6 @@ module _ (s : List ℕ) where
   pub number-closes : (k : ℕ) {f : Front} → length s ≡ state_size → FrontRead s (Ok f) → k ≡ tag_fault f.depth 0 false closes → k ≡ state_number s closes
   unfolding state_of tag_fault
   number-closes k long h e = number-fault closes k long h.0 (rw (← h.1) e)
-
--- What is handed on by `?` keeps its number.
-pub handed-on : (r : Result Unit Fault) (f : Fault) → IsErrAnd r (λ e. e ≡ f) → fault_number r ≡ number_of_fault f
-handed-on (Err e) f h = ap number_of_fault h
-handed-on (Ok u) f h = absurd h
 
 -- What was read of an equal state.
 pub front-of : {s b : List ℕ} (r : Result Front Fault) → b ≡ s → FrontRead b r → FrontRead s r

@@ -1,9 +1,10 @@
 -- `close_state`: one law for each way out. Assumes nothing.
 use native.Mathlib.Omega.{arith}
-use mathlib.Core.Path.{refl, sym, ◌∙◌}
+use mathlib.Core.Path.{ap, refl, sym, ◌∙◌}
 use Rattle.std.specs.Prelude.{Ok, Err}
-use Rattle.terms.proofs.FaultLaws.{fault-number-some}
-use Rattle.state.proofs.NumberLaws.{front-of, handed-on, number-other-size, number-bad, number-closes, closes-fine, close-refused, close-taken}
+use Rattle.terms.specs.Answer.{fault_number}
+use Rattle.terms.proofs.FaultLaws.{fault-number-some, handed-on}
+use Rattle.state.proofs.NumberLaws.{front-of, number-other-size, number-bad, number-closes, closes-fine, close-refused, close-taken}
 use Rattle.state.proofs.state.close_state.Goals as goal
 
 pub returns-in_default : goal.returns-in_default
@@ -13,14 +14,14 @@ pub returns-in_err-depth : goal.returns-in_err-depth
 returns-in_err-depth c =
     let h = c.in-Some.ensures.cases in
     let f = front-of (Err c.in_err-depth.field-0.0) h.same c.in_err-depth.ensures in
-    let n = handed-on c.from_residual.result _ c.from_residual.ensures.1 in
+    let n = ap fault_number (handed-on c.from_residual.result _ c.from_residual.ensures.1) in
     close-refused _ _ (n ∙ number-bad _ _ h.long f) (λ z. fault-number-some _ (sym n ∙ z)) h.same
 
 pub returns-in_err-close_fault : goal.returns-in_err-close_fault
 returns-in_err-close_fault c =
     let h = c.in-Some.ensures.cases in
     let f = front-of (Ok c.in_ok-depth.field-0) h.same c.in_ok-depth.ensures in
-    let n = handed-on c.from_residual-in_err-close_fault.result _ c.from_residual-in_err-close_fault.ensures.1 in
+    let n = ap fault_number (handed-on c.from_residual-in_err-close_fault.result _ c.from_residual-in_err-close_fault.ensures.1) in
     close-refused _ _ (n ∙ number-closes _ _ h.long f c.in_err-close_fault.ensures) (λ z. fault-number-some _ (sym n ∙ z)) h.same
 
 pub overflow_sub-depth : goal.overflow_sub-depth

@@ -1,9 +1,10 @@
 -- `open_state`: one law for each way out. Assumes nothing.
 use native.Mathlib.Omega.{arith}
-use mathlib.Core.Path.{refl, sym, ◌∙◌}
+use mathlib.Core.Path.{ap, refl, sym, ◌∙◌}
 use Rattle.std.specs.Prelude.{Ok, Err}
-use Rattle.terms.proofs.FaultLaws.{fault-number-some}
-use Rattle.state.proofs.NumberLaws.{front-of, handed-on, number-other-size, number-bad, number-opens, opens-fine, open-refused, open-taken}
+use Rattle.terms.specs.Answer.{fault_number}
+use Rattle.terms.proofs.FaultLaws.{fault-number-some, handed-on}
+use Rattle.state.proofs.NumberLaws.{front-of, number-other-size, number-bad, number-opens, opens-fine, open-refused, open-taken}
 use Rattle.state.proofs.state.open_state.Goals as goal
 
 pub returns-in_default : goal.returns-in_default
@@ -13,14 +14,14 @@ pub returns-in_err-front : goal.returns-in_err-front
 returns-in_err-front c =
     let h = c.in-Some.ensures.cases in
     let f = front-of (Err c.in_err-front.field-0.0) h.same c.in_err-front.ensures in
-    let n = handed-on c.from_residual.result _ c.from_residual.ensures.1 in
+    let n = ap fault_number (handed-on c.from_residual.result _ c.from_residual.ensures.1) in
     open-refused _ _ _ _ (n ∙ number-bad _ _ h.long f) (λ z. fault-number-some _ (sym n ∙ z)) h.same
 
 pub returns-in_err-open_fault : goal.returns-in_err-open_fault
 returns-in_err-open_fault c =
     let h = c.in-Some.ensures.cases in
     let f = front-of (Ok c.in_ok-front.front) h.same c.in_ok-front.ensures in
-    let n = handed-on c.from_residual-in_err-open_fault.result _ c.from_residual-in_err-open_fault.ensures.1 in
+    let n = ap fault_number (handed-on c.from_residual-in_err-open_fault.result _ c.from_residual-in_err-open_fault.ensures.1) in
     open-refused _ _ _ _ (n ∙ number-opens _ _ _ h.long f c.in_err-open_fault.ensures) (λ z. fault-number-some _ (sym n ∙ z)) h.same
 
 pub store_opening-requires : goal.store_opening-requires
