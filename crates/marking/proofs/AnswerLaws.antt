@@ -16,7 +16,7 @@ use Rattle.reports.specs.Report.{report_answer}
 use Rattle.entry.specs.declared.entry.Entry.{Entry}
 use Rattle.terms.specs.Limits.{entries_most, elements_most, rule_most, report_most}
 use Rattle.grammar.specs.Rules.{RuleEntries}
-use Rattle.grammar.proofs.Table.{table-of}
+use Rattle.grammar.proofs.Table.{table-taken}
 use Rattle.grammar.proofs.WhenRule.{rule-answer-sound}
 use Rattle.grammar.proofs.WhenReport.{report-answer-sound}
 use Rattle.terms.proofs.AnswerLaws.{Sound, order-sound, Within}
@@ -41,6 +41,12 @@ use Rattle.numbers.proofs.Lists.{over-kept, over-length}
 use Rattle.reports.proofs.ElementLaws.{report-small}
 use Rattle.grammar.proofs.Elements.{levels-elements, elements-few}
 use Rattle.numbers.proofs.BitLaws.{have_bit-few}
+
+-- The selected count is no more than there are words, so it fits where the elements' does.
+pub marked-few : {es : List Entry} {ds labels marks after : List ℕ} {r : ℕ} (n : ℕ) (levels : List ℕ) → ds ≡ take n levels → n ≤ length levels
+    → Marked es ds labels marks r after → r ≤ n
+marked-few {es} {ds} {labels} n levels e h m =
+    omega (arith, m.selected_is, have_bit-few (pred (length es)) (words es ds labels), words-length es ds labels, ap length e, length-take-le n levels h)
 
 -- ---- once the rule has been read
 
@@ -278,7 +284,7 @@ entries-read rule table {r} {n} {last} room f e =
     let count : length (entries_of rule) ≡ n = entries-count rule ∙ ap count_of (sym is) in
     let same : length last ≡ length table = ap length held ∙ over-length (entries_of rule) table in
     let long : n ≤ length last = omega (arith, entries-few rule, entries-count rule) in
-    let read : take n last ≡ entries_of rule = rw (held, ← count) (table-of (entries_of rule) table (omega (arith, entries-few rule, entries-count rule))) in
+    let read : take n last ≡ entries_of rule = rw (held, ← count) (table-taken (entries_of rule) table (omega (arith, entries-few rule, entries-count rule))) in
     record {
       is = is;
       within = long;

@@ -77,7 +77,7 @@ step-looks-ahead s t verdict taken ahead f e =
     let (is, ten) = ahead-faulty ahead f e in rw ten (step-ahead s t verdict taken ahead is)
 
 -- None does: an opening has the state's fault, or the last entry's bit of the word.
-opened-step : (s : List ℕ) (label w n k : ℕ) (on : Bool) (after : List ℕ) (ahead : Bool) → ahead ≡ false → StateOpened s label w k after
+pub opened-step : (s : List ℕ) (label w n k : ℕ) (on : Bool) (after : List ℕ) (ahead : Bool) → ahead ≡ false → StateOpened s label w k after
     → on ≡ bit_at w (n - 1) → Stepped ahead s (opens label) (bit_at w (pred n)) (opening w s) (reply k 0 (bit (eqb k 0 && on))) after
 unfolding step_number
 opened-step s label w n k on after ahead e o b =

@@ -5,7 +5,7 @@ ghost use Rattle.terms.specs.Answer.{answered};
 ghost use Rattle.reports.specs.Report.{report_answer};
 ghost use Rattle.reports.specs.Elements.{ElementsTaken};
 
-use tag::tag::{Tag, end_of, take_tag};
+use tag::tag::{Tag, Untaken, end_of, take_tag};
 use terms::limits::REPORT_MOST;
 use terms::refusal::{Fault, Refusal};
 
@@ -47,7 +47,7 @@ pub fn read_elements(
         // The offset first: the next record waits for it alone, and what stands last in both branches the
         // compiler merges into one sum that waits for the branch.
         match take_tag(report, at, depth, elements) {
-            Err(fault) => break Err(fault.at(at)),
+            Err(Untaken { fault, .. }) => break Err(fault.at(at)),
             Ok(Tag::Opening(label)) => {
                 at = at + 6;
                 put(labels, elements, label);

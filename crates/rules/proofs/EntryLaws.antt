@@ -35,6 +35,15 @@ use Rattle.terms.proofs.AnswerLaws.{refused-not, Within, within-either, refused-
 pub entries-length : (s : List ℕ) (i : ℕ) → length (entries_before s i) ≡ i
 entries-length s i = listed-length i _
 
+-- No more entries are read than a rule may have.
+pub entries-read-few : (s : List ℕ) → length (entries_read s) ≤ entries_most
+unfolding entries_read
+entries-read-few s = few (ltb (length s) 1 || ltb rule_most (length s))
+  where
+    few : (big : Bool) → length (cond big [] (entries_before s (first (rule_stops s) entries_most))) ≤ entries_most
+    few true = omega arith
+    few false = omega (arith, entries-length s (first (rule_stops s) entries_most), first-le (rule_stops s) entries_most)
+
 -- The entries of an accepted rule of n entries, and of a refused one.
 pub entries-taken : (s : List ℕ) (n : ℕ) → Accepted n ≡ rule_answer s → entries_of s ≡ entries_before s n
 unfolding entries_of

@@ -10,12 +10,15 @@ use entry::entry::Entry;
 use terms::limits::ENTRIES_MOST;
 use terms::refusal::Refusal;
 
-// A table of entries: entry n gets place n.
+// A table of entries: entry n gets place n, where the table has such a place.
 impl Visitor for [Entry; ENTRIES_MOST] {
     ghost then = { set };
 
     fn see(&mut self, n: usize, e: Entry) {
-        self[n] = e;
+        let has_place = n < ENTRIES_MOST;
+        if has_place {
+            self[n] = e;
+        }
     }
 }
 

@@ -1,8 +1,7 @@
 // One walk of a rule's bytes, which checks the rule and shows each entry to whoever wants it: what is made
 // of the entries differs, the walk does not.
-ghost use Rattle.std.specs.Prelude.{◌≡◌, ◌<◌, ℕ};
+ghost use Rattle.std.specs.Prelude.{◌≡◌, ℕ};
 ghost use Rattle.terms.specs.Answer.{answered};
-ghost use Rattle.terms.specs.Limits.{entries_most};
 ghost use Rattle.rules.specs.Rule.{rule_answer};
 ghost use Rattle.rules.specs.Entries.{entries_read, seen};
 ghost use Rattle.entry.specs.declared.entry.Entry.{Entry as AnEntry};
@@ -16,9 +15,8 @@ pub trait Visitor {
     // What seeing entry n makes of the visitor.
     ghost then: { Self → ℕ → AnEntry → Self };
 
-    // Sees entry n of a rule.
+    // Sees entry n. Nothing is asked of n: `then` also says what a number makes of the visitor that no entry has.
     fn see(&mut self, n: usize, e: Entry)
-        requires { n < entries_most }
         ensures { self.new ≡ then self.old n e };
 }
 

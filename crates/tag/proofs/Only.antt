@@ -1,10 +1,10 @@
 -- Every promise of a public function of this crate determines the answer: any two results that meet it are equal. Assumes nothing.
 use Rattle.numbers.proofs.Only.{only}
 use Prim.Native.Nat.{ℕ}
-use mathlib.Core.Path.{◌≡◌, refl, sym, ap, ◌∙◌}
+use mathlib.Core.Path.{◌≡◌, refl, ap, ◌∙◌}
 use mathlib.Core.Bool.{Bool, false}
 use mathlib.Core.List.{List}
-use Rattle.std.specs.Prelude.{Result, Ok, Err}
+use Rattle.std.specs.Prelude.{Option, Result, Ok, Err}
 use Rattle.terms.specs.Answer.{answered, fault_number}
 use Rattle.terms.specs.declared.refusal.Fault.{Fault}
 use Rattle.terms.specs.declared.refusal.Refusal.{Refusal}
@@ -13,6 +13,7 @@ use Rattle.tag.specs.Tags.{opens, closes, tag_fault, end_of}
 use Rattle.tag.specs.Taken.{TagTaken, tag_of}
 use Rattle.tag.specs.declared.tag.Tag.{Tag as CodeTag}
 use Rattle.tag.specs.declared.tag.Tag.TheVariants.{Opening, Closing}
+use Rattle.tag.specs.declared.tag.Untaken.{Untaken}
 
 -- Whether an element may open.
 pub open-fault-only : (depth elements : ℕ) (root_closed : Bool) (label : ℕ) (r r' : Result Unit Fault)
@@ -32,13 +33,18 @@ tag-only (Opening l) Closing e = cc
 tag-only Closing (Opening l) e = cc
 tag-only Closing Closing e = refl
 
+abbrev untaken : Fault → Option ℕ → Untaken
+untaken f l = record { fault = f; label = l }
+
 -- What the record at an offset is taken for.
-pub take-tag-only : (s : List ℕ) (at depth elements : ℕ) (r r' : Result CodeTag Fault)
+pub take-tag-only : (s : List ℕ) (at depth elements : ℕ) (r r' : Result CodeTag Untaken)
     → TagTaken s at depth elements r → TagTaken s at depth elements r' → r ≡ r'
 take-tag-only s at depth elements (Ok t) (Ok u) (p, e) (p', e') = ap (λ (x : CodeTag). Ok x) (tag-only t u (only e e'))
-take-tag-only s at depth elements (Ok t) (Err f) (p, e) q = absurd (fault-number-some f (q ∙ p))
-take-tag-only s at depth elements (Err f) (Ok t) q (p, e) = absurd (fault-number-some f (q ∙ p))
-take-tag-only s at depth elements (Err f) (Err g) p q = ap (λ (k : Fault). Err k) (fault-only f g (p ∙ sym q))
+take-tag-only s at depth elements (Ok t) (Err u) (p, e) (q, l) = absurd (fault-number-some u.fault (q ∙ p))
+take-tag-only s at depth elements (Err u) (Ok t) (q, l) (p, e) = absurd (fault-number-some u.fault (q ∙ p))
+take-tag-only s at depth elements (Err u) (Err v) (p, l) (q, m) =
+    ap (λ (f : Fault). Err (untaken f u.label)) (fault-only u.fault v.fault (only p q))
+    ∙ ap (λ (k : Option ℕ). Err (untaken v.fault k)) (only l m)
 
 -- What a report that ends is answered.
 pub end-of-only : (size depth elements : ℕ) (r r' : Result ℕ Refusal) → answered r ≡ end_of size depth elements

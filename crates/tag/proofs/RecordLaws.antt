@@ -12,6 +12,13 @@ use Rattle.numbers.specs.Bytes.{number_at}
 use Rattle.terms.specs.Frame.{frame_of, kind_at, broken, Frame, Whole, Cut, Garbled}
 use Rattle.tag.specs.Tags.{Tag, opens, closes, tag_fault}
 use Rattle.tag.specs.Record.{report_length, tag_at, record_fault}
+use Rattle.tag.specs.Taken.{label_of, label_at, TagTaken}
+use Rattle.tag.specs.declared.tag.Tag.{Tag as CodeTag}
+use Rattle.tag.specs.declared.tag.Untaken.{Untaken}
+use Rattle.std.specs.Prelude.{Option, None, Some, Result, Ok, Err}
+use Rattle.std.specs.Result.{IsErrAnd}
+use Rattle.terms.specs.Answer.{number_of_fault}
+use Rattle.terms.specs.declared.refusal.Fault.{Fault}
 use Rattle.terms.proofs.FrameLaws.{Stands, frame-few, frame-unknown, frame-wrong, frame_past, frame-whole, whole-stands}
 use Rattle.terms.specs.Limits.{elements_most, levels_most, outside}
 
@@ -62,51 +69,59 @@ module _ (s : List ℕ) (at : ℕ) where
   closing-there k = tag-closes (ne_eqb (kind_at s at) 1 (λ z. omega arith))
 
   module _ (depth elements : ℕ) where
+    -- The number that the record gets, and the label that it names.
+    abbrev Told : ℕ → Option ℕ → Type 0
+    Told number label = (number ≡ record_fault s at depth elements) × (label ≡ label_at s at)
+
     -- Fewer than 4 bytes left.
-    pub record-few : length s < at + 4 → 6 ≡ record_fault s at depth elements
-    unfolding record_fault
-    record-few h = simp (frame-few s at (report_length (kind_at s at)) h)
+    pub record-few : length s < at + 4 → Told 6 None
+    unfolding record_fault label_at
+    record-few h = let e = frame-few s at (report_length (kind_at s at)) h in (simp e, simp e)
 
     -- The record is not whole.
-    record-broken : (f : Frame) → f ≡ frame_of s at (report_length (kind_at s at)) → broken f ≡ true → 6 ≡ record_fault s at depth elements
-    unfolding record_fault
-    record-broken f e b = simp (sym e, b)
+    record-broken : (f : Frame) → f ≡ frame_of s at (report_length (kind_at s at)) → broken f ≡ true → Told 6 None
+    unfolding record_fault label_at
+    record-broken f e b = (simp (sym e, b), simp (sym e, b))
 
     -- The record is whole: its tag decides.
     record-whole : Whole ≡ frame_of s at (report_length (kind_at s at))
-        → tag_fault depth elements (eqb depth 0 && ltb 0 elements) (tag_at s at) ≡ record_fault s at depth elements
-    unfolding record_fault
-    record-whole e = rw (← e)
+        → Told (tag_fault depth elements (eqb depth 0 && ltb 0 elements) (tag_at s at)) (label_of (tag_at s at))
+    unfolding record_fault label_at
+    record-whole e = (rw (← e), rw (← e))
 
     -- The same by the length that the record's kind has: no such kind, another length, past the end, none of these.
     module _ (n : ℕ) (is : report_length (kind_at s at) ≡ n) (room : at + 4 ≤ length s) where
       frame-by : (f : Frame) → frame_of s at n ≡ f → f ≡ frame_of s at (report_length (kind_at s at))
       frame-by f e = sym (ap (frame_of s at) is ∙ e)
 
-      pub record-unknown : n ≡ 0 → 6 ≡ record_fault s at depth elements
+      pub record-unknown : n ≡ 0 → Told 6 None
       record-unknown z = record-broken Garbled (frame-by Garbled (frame-unknown s at n room z)) refl
 
-      pub record-wrong : (n ≡ 0 → ⊥) → (number_at s at ≡ n → ⊥) → 6 ≡ record_fault s at depth elements
+      pub record-wrong : (n ≡ 0 → ⊥) → (number_at s at ≡ n → ⊥) → Told 6 None
       record-wrong z e = record-broken Garbled (frame-by Garbled (frame-wrong s at n room z e)) refl
 
-      pub record-past : (n ≡ 0 → ⊥) → number_at s at ≡ n → length s < at + 2 + n → 6 ≡ record_fault s at depth elements
+      pub record-past : (n ≡ 0 → ⊥) → number_at s at ≡ n → length s < at + 2 + n → Told 6 None
       record-past z e p = record-broken Cut (frame-by Cut (frame_past s at n room z e p)) refl
 
       record-fits : (n ≡ 0 → ⊥) → number_at s at ≡ n → at + 2 + n ≤ length s → (t : Tag) → tag_at s at ≡ t
-          → tag_fault depth elements (eqb depth 0 && ltb 0 elements) t ≡ record_fault s at depth elements
-      record-fits z e p t q =
-          ap (λ (u : Tag). tag_fault depth elements (eqb depth 0 && ltb 0 elements) u) (sym q)
-          ∙ record-whole (frame-by Whole (frame-whole s at n room z e p))
+          → Told (tag_fault depth elements (eqb depth 0 && ltb 0 elements) t) (label_of t)
+      record-fits z e p t q = rw q at record-whole (frame-by Whole (frame-whole s at n room z e p))
 
-    -- A whole opening, and a whole closing: what the tag is answered.
+    -- A whole opening, and a whole closing: what the tag is answered, and the label.
     pub record-opens : kind_at s at ≡ 1 → at + 4 ≤ length s → number_at s at ≡ 4 → at + 6 ≤ length s → (l : ℕ) → l ≡ number_at s (at + 4)
-        → tag_fault depth elements (eqb depth 0 && ltb 0 elements) (opens l) ≡ record_fault s at depth elements
+        → Told (tag_fault depth elements (eqb depth 0 && ltb 0 elements) (opens l)) (Some l)
     record-opens k room e p l q =
         record-fits 4 (length-opens k) room (λ z. omega arith) e (omega arith) (opens l) (opening-there k l q)
 
-    pub record-closes : kind_at s at ≡ 2 → at + 4 ≤ length s → number_at s at ≡ 2 → tag_fault depth 0 false closes ≡ record_fault s at depth elements
+    pub record-closes : kind_at s at ≡ 2 → at + 4 ≤ length s → number_at s at ≡ 2 → Told (tag_fault depth 0 false closes) None
     unfolding tag_fault
     record-closes k room e = record-fits 2 (length-closes k) room (λ z. omega arith) e (omega arith) closes (closing-there k)
+
+    -- What `?` hands on of a record that names no label.
+    pub handed-on : (r : Result CodeTag Untaken) (f : Fault) → IsErrAnd r (λ u. u ≡ record { fault = f; label = None }) → Told (number_of_fault f) None
+        → TagTaken s at depth elements r
+    handed-on (Err u) f is told = rw is told
+    handed-on (Ok t) f is told = absurd is
 
     -- A record with no fault is whole, and its tag has none.
     pub record-sound : record_fault s at depth elements ≡ 0

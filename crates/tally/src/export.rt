@@ -41,14 +41,17 @@ fn sum_of(a: u32, b: u32) -> u64
 pub fn count(t: Tally, verdict: bool) -> Result<Tally, NotCounted>
     ensures { result ≡ counted t verdict }
 {
-    if t.seen == u32::MAX {
+    let full = t.seen == u32::MAX;
+    if full {
         return Err(NotCounted::AtLimit);
     }
-    if t.seen as u64 != sum_of(t.selected, t.passed_over) {
+    let out_of_balance = t.seen as u64 != sum_of(t.selected, t.passed_over);
+    if out_of_balance {
         return Err(NotCounted::OutOfBalance);
     }
     let seen = t.seen + 1;
-    if verdict {
+    let selects = verdict;
+    if selects {
         Ok(Tally {
             seen,
             selected: t.selected + 1,

@@ -1,7 +1,8 @@
 -- An entry that looks ahead; a walk turn by turn, one entry more behind the others; what it says of an accepted rule.
 -- Assumes nothing.
-use Prim.Native.Nat.{ℕ, suc, ◌*◌, ◌^◌}
+use Prim.Native.Nat.{ℕ, suc, ◌+◌, ◌*◌, ◌^◌, ◌≤◌, ◌<◌}
 use native.Mathlib.Omega.{arith}
+use native.Mathlib.Nat.{mod-eq_of_lt}
 use native.Mathlib.Numerals.{add-one}
 use mathlib.Core.Path.{◌≡◌, refl, sym, ap, ◌∙◌}
 use mathlib.Core.Bool.{Bool, true, false, not, ◌||◌}
@@ -25,8 +26,8 @@ use Rattle.walk.specs.declared.visitors.Looking.{Looking}
 use Rattle.walk.specs.declared.walk.Ahead.{Ahead}
 use Rattle.walk.specs.declared.walk.Walk.{Walk}
 use Rattle.rules.specs.Entries.{entries_of, entries_read, seen_from, seen}
-use Rattle.rules.proofs.EntryLaws.{entries-taken-all}
-use Rattle.numbers.specs.Bits.{bit}
+use Rattle.rules.proofs.EntryLaws.{entries-read-few, entries-taken-all}
+use Rattle.numbers.specs.Bits.{bit, word_bits, in_word}
 
 -- ---- an entry that looks ahead
 
@@ -64,9 +65,11 @@ module _ (label p q : ℕ) where
   abbrev stepped-by : List Entry → Stepping
   stepped-by ps = stepping label p q (looks_ahead ps) (step_word ps label p q (length ps))
 
-  stepped-once : (ps : List Entry) (x : Entry) → stepped (stepped-by ps) (length ps) x ≡ stepped-by (ps ++ (x ∷ []))
-  stepped-once ps x =
-      ap (λ (b : Bool). stepping label p q b (bit_or w (bit on * 2 ^ length ps))) (sym (ahead_more ps x))
+  -- One entry more, where the word has a bit for it.
+  stepped-once : (ps : List Entry) (x : Entry) → length ps < word_bits → stepped (stepped-by ps) (length ps) x ≡ stepped-by (ps ++ (x ∷ []))
+  stepped-once ps x l =
+      ap (λ (b : Bool). stepping label p q b (bit_or w (bit on * 2 ^ in_word (length ps)))) (sym (ahead_more ps x))
+      ∙ ap (λ (k : ℕ). stepping label p q (looks_ahead (ps ++ (x ∷ []))) (bit_or w (bit on * 2 ^ k))) (mod-eq_of_lt l)
       ∙ ap (stepping label p q (looks_ahead (ps ++ (x ∷ []))))
       (or_shifted_r (bit on) (length ps) w (step_small ps label p q (length ps))
       ∙ step-last ps x label p q (length ps) refl on w refl refl ∙ ap (step_word (ps ++ (x ∷ [])) label p q) (sym (length-append ps (x ∷ []))))
@@ -78,20 +81,20 @@ module _ (label p q : ℕ) where
       on = step_bit (shape_of x.kind) x.a x.b (length ps) label w p q
 
   -- And then more.
-  stepped-more : (ps es : List Entry) → seen_from stepped (stepped-by ps) (length ps) es ≡ stepped-by (ps ++ es)
+  stepped-more : (ps es : List Entry) → length ps + length es ≤ word_bits → seen_from stepped (stepped-by ps) (length ps) es ≡ stepped-by (ps ++ es)
   unfolding seen_from
-  stepped-more ps [] = ap stepped-by (sym (append-nil ps))
-  stepped-more ps (x ∷ es) =
-      ap (λ (v : Stepping). seen_from stepped v (suc (length ps)) es) (stepped-once ps x)
+  stepped-more ps [] l = ap stepped-by (sym (append-nil ps))
+  stepped-more ps (x ∷ es) l =
+      ap (λ (v : Stepping). seen_from stepped v (suc (length ps)) es) (stepped-once ps x (omega arith))
       ∙ ap (λ (k : ℕ). seen_from stepped (stepped-by (ps ++ (x ∷ []))) k es) (suc-length ps x)
-      ∙ stepped-more (ps ++ (x ∷ [])) es ∙ ap stepped-by (append_assoc ps (x ∷ []) es)
+      ∙ stepped-more (ps ++ (x ∷ [])) es (omega (arith, length-append ps (x ∷ []))) ∙ ap stepped-by (append_assoc ps (x ∷ []) es)
 
   -- What a walk gives.
   pub walk-done : (s : List ℕ) {v : Stepping} {r : Result ℕ Refusal} → answered r ≡ rule_answer s
       → v ≡ seen stepped (stepping label p q false 0) (entries_read s) → Walked s label p q record { answer = r; ahead = v.ahead; word = v.word }
   unfolding looks_ahead step_word
   walk-done s {v} a e =
-      let same : v ≡ stepped-by (entries_read s) = e ∙ stepped-more [] (entries_read s) in
+      let same : v ≡ stepped-by (entries_read s) = e ∙ stepped-more [] (entries_read s) (omega (arith, entries-read-few s)) in
       record { answer_is = a; ahead_is = ap (λ (x : Stepping). x.ahead) same; word_is = ap (λ (x : Stepping). x.word) same }
 
 -- The same without a step.

@@ -19,9 +19,9 @@ pub returns-then-text-written : goal.returns-then-text-written
 unfolding number_of_fault
 returns-then-text-written c = given-short _ _ _ c.put_taken.ensures _ c.in_ok-written.was c.if-text-written.true (rw c.at.ensures)
 
+pub returns : goal.returns
+returns c = given-taken _ _ _ c.put_taken.ensures _ c.in_ok-written.was (length-replicate {A = ℕ} buffer_size 0) c.if-text-written.false c.copy_front.ensures
+
 pub copy_front-requires : goal.copy_front-requires
 copy_front-requires c =
     (whole-fits _ _ [] c.put_taken.ensures _ (length-replicate {A = ℕ} buffer_size 0) c.in_ok-written.was, c.if-text-written.false)
-
-pub returns : goal.returns
-returns c = given-taken _ _ _ c.put_taken.ensures _ c.in_ok-written.was (length-replicate {A = ℕ} buffer_size 0) c.if-text-written.false c.copy_front.ensures

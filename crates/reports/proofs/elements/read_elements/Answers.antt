@@ -32,4 +32,4 @@ returns-then-report-at c = walk-ended _ _ _ c.loop-at.invariant.1 c.if-empty.fal
 pub returns-in-Err : goal.returns-in-Err
 returns-in-Err c =
     rw c.at-in-Err.ensures
-    (walk_refused _ _ _ c.loop-at.invariant.1 c.if-empty.false c.if-too_long.false c.if-report-at.false _ c.in-Err.ensures)
+    (walk_refused _ _ _ c.loop-at.invariant.1 c.if-empty.false c.if-too_long.false c.if-report-at.false _ c.in-Err.ensures.0)

@@ -22,9 +22,6 @@ returns-then-too_long-clause-visitor g c = visit-kept _ _ _ (entries-many _ c.if
 pub loop-at-init : goal.loop-at-init
 loop-at-init g c = visit-start _ _ _
 
-pub see-requires : goal.see-requires
-see-requires g c = (rule-onward _ c.loop-at.invariant.mid c.if-at-rule.false _ c.in-Ok.ensures).few
-
 pub loop-at-smaller : goal.loop-at-smaller
 loop-at-smaller g c =
     let o = rule-onward _ c.loop-at.invariant.mid c.if-at-rule.false _ c.in-Ok.ensures in omega (arith, o.on, o.within)

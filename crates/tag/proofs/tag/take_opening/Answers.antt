@@ -1,5 +1,4 @@
 -- `take_opening`: another length, past the end, or the tag decides. Assumes nothing.
-use Rattle.std.proofs.Common.{rules}
 use native.Mathlib.Omega.{arith}
 use mathlib.Core.Path.{sym, ◌∙◌}
 use Rattle.terms.specs.Answer.{number_of_fault}
@@ -9,20 +8,22 @@ use Rattle.tag.proofs.tag.take_opening.Goals as goal
 pub returns-then-other_length : goal.returns-then-other_length
 unfolding number_of_fault
 returns-then-other_length c =
-    record-wrong _ _ _ _ 4 (length-opens _ _ c.requires.of_kind) c.requires.at_in_bounds (λ z. omega arith) (λ e. c.if-other_length.true (c.number_at-other_length.ensures ∙ e))
+    rw c.into.ensures
+    (record-wrong _ _ _ _ 4 (length-opens _ _ c.requires.of_kind) c.requires.at_in_bounds (λ z. omega arith) (λ e. c.if-other_length.true (c.number_at-other_length.ensures ∙ e)))
 
 pub returns-then-s-at-lt6 : goal.returns-then-s-at-lt6
 unfolding number_of_fault
 returns-then-s-at-lt6 c =
-    record-past _ _ _ _ 4 (length-opens _ _ c.requires.of_kind) c.requires.at_in_bounds (λ z. omega arith) (sym c.number_at-other_length.ensures ∙ c.if-other_length.false) (omega arith)
+    rw c.into-then-s-at-lt6.ensures
+    (record-past _ _ _ _ 4 (length-opens _ _ c.requires.of_kind) c.requires.at_in_bounds (λ z. omega arith) (sym c.number_at-other_length.ensures ∙ c.if-other_length.false) (omega arith))
 
-pub returns-in_err-open_fault : goal.returns-in_err-open_fault
-returns-in_err-open_fault c =
-    let e = c.in_err-open_fault.ensures ∙ record-opens _ _ _ _ c.requires.of_kind c.requires.at_in_bounds (sym c.number_at-other_length.ensures ∙ c.if-other_length.false) (omega arith) _ c.number_at-label.ensures in
-    search rules
+pub returns-in-Err : goal.returns-in-Err
+returns-in-Err c =
+    let (e, l) = record-opens _ _ _ _ c.requires.of_kind c.requires.at_in_bounds (sym c.number_at-other_length.ensures ∙ c.if-other_length.false) (omega arith) _ c.number_at-label.ensures in
+    (c.in-Err.ensures ∙ e, l)
 
 pub returns : goal.returns
 returns c = (
-  sym (c.in_ok-open_fault.ensures ∙ record-opens _ _ _ _ c.requires.of_kind c.requires.at_in_bounds (sym c.number_at-other_length.ensures ∙ c.if-other_length.false) (omega arith) _ c.number_at-label.ensures),
+  sym (c.in_default.ensures ∙ (record-opens _ _ _ _ c.requires.of_kind c.requires.at_in_bounds (sym c.number_at-other_length.ensures ∙ c.if-other_length.false) (omega arith) _ c.number_at-label.ensures).0),
   sym (opening-there _ _ c.requires.of_kind _ c.number_at-label.ensures),
 )

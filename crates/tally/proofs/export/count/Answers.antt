@@ -4,16 +4,16 @@ use Rattle.tally.specs.Tally.{risen}
 use Rattle.tally.proofs.Laws.{counted-full, counted-unbalanced, counted-taken}
 use Rattle.tally.proofs.export.count.Goals as goal
 
-pub returns-then-t-eq4294967295 : goal.returns-then-t-eq4294967295
-returns-then-t-eq4294967295 c = sym (counted-full _ _ c.if-t-eq4294967295.true)
+pub returns-then-full : goal.returns-then-full
+returns-then-full c = sym (counted-full _ _ c.if-full.true)
 
-pub returns-then-t-sum_of : goal.returns-then-t-sum_of
-returns-then-t-sum_of c = sym (counted-unbalanced _ _ c.if-t-eq4294967295.false (λ b. c.if-t-sum_of.true (b ∙ sym c.sum_of.ensures)))
+pub returns-then-out_of_balance : goal.returns-then-out_of_balance
+returns-then-out_of_balance c = sym (counted-unbalanced _ _ c.if-full.false (λ b. c.if-out_of_balance.true (b ∙ sym c.sum_of.ensures)))
 
-pub returns-then-verdict : goal.returns-then-verdict
+pub returns-then-selects : goal.returns-then-selects
 unfolding risen
-returns-then-verdict c = rw (counted-taken c.args.t c.args.verdict c.if-t-eq4294967295.false (c.if-t-sum_of.false ∙ c.sum_of.ensures), c.if-verdict.true)
+returns-then-selects c = rw (counted-taken c.args.t c.args.verdict c.if-full.false (c.if-out_of_balance.false ∙ c.sum_of.ensures), c.if-selects.true)
 
-pub returns-else-verdict : goal.returns-else-verdict
+pub returns-else-selects : goal.returns-else-selects
 unfolding risen
-returns-else-verdict c = rw (counted-taken c.args.t c.args.verdict c.if-t-eq4294967295.false (c.if-t-sum_of.false ∙ c.sum_of.ensures), c.if-verdict.false)
+returns-else-selects c = rw (counted-taken c.args.t c.args.verdict c.if-full.false (c.if-out_of_balance.false ∙ c.sum_of.ensures), c.if-selects.false)
