@@ -12,13 +12,8 @@ use Rattle.numbers.specs.Bytes.{number_at}
 use Rattle.terms.specs.Frame.{frame_of, kind_at, broken, Frame, Whole, Cut, Garbled}
 use Rattle.tag.specs.Tags.{Tag, opens, closes, tag_fault}
 use Rattle.tag.specs.Record.{report_length, tag_at, record_fault}
-use Rattle.tag.specs.Taken.{label_of, label_at, TagTaken}
-use Rattle.tag.specs.declared.tag.Tag.{Tag as CodeTag}
-use Rattle.tag.specs.declared.tag.Untaken.{Untaken}
-use Rattle.std.specs.Prelude.{Option, None, Some, Result, Ok, Err}
-use Rattle.std.specs.Result.{IsErrAnd}
-use Rattle.terms.specs.Answer.{number_of_fault}
-use Rattle.terms.specs.declared.refusal.Fault.{Fault}
+use Rattle.tag.specs.Taken.{label_of, label_at}
+use Rattle.std.specs.Prelude.{Option, None, Some}
 use Rattle.terms.proofs.FrameLaws.{Stands, frame-few, frame-unknown, frame-wrong, frame_past, frame-whole, whole-stands}
 use Rattle.terms.specs.Limits.{elements_most, levels_most, outside}
 
@@ -116,12 +111,6 @@ module _ (s : List ℕ) (at : ℕ) where
     pub record-closes : kind_at s at ≡ 2 → at + 4 ≤ length s → number_at s at ≡ 2 → Told (tag_fault depth 0 false closes) None
     unfolding tag_fault
     record-closes k room e = record-fits 2 (length-closes k) room (λ z. omega arith) e (omega arith) closes (closing-there k)
-
-    -- What `?` hands on of a record that names no label.
-    pub handed-on : (r : Result CodeTag Untaken) (f : Fault) → IsErrAnd r (λ u. u ≡ record { fault = f; label = None }) → Told (number_of_fault f) None
-        → TagTaken s at depth elements r
-    handed-on (Err u) f is told = rw is told
-    handed-on (Ok t) f is told = absurd is
 
     -- A record with no fault is whole, and its tag has none.
     pub record-sound : record_fault s at depth elements ≡ 0

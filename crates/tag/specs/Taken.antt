@@ -27,6 +27,7 @@ label_of closes = None
 unfoldable pub label_at : List ℕ → ℕ → Option ℕ
 label_at s at = cond (broken_at report_length s at) None (label_of (tag_at s at))
 
+-- What is taken of a record: without a fault its tag; else the fault whose number the record gets, and the label that it names.
 abbrev pub TagTaken : (s : List ℕ) (at open_now opened_so_far : ℕ) → Result CodeTag Untaken → Type 0
 TagTaken s at open_now opened_so_far (Ok t) = (record_fault s at open_now opened_so_far ≡ 0) × (tag_of t ≡ tag_at s at)
 TagTaken s at open_now opened_so_far (Err u) =

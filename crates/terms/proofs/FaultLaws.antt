@@ -73,7 +73,7 @@ fault-number-only (Ok x) (Err f) e = absurd (fault-number-some f (sym e))
 fault-number-only (Err f) (Ok x) e = absurd (fault-number-some f e)
 fault-number-only (Err f) (Err g) e = ap (λ (k : Fault). Err k) (fault-only f g e)
 
--- What `?` hands on is the error that it met.
-pub handed-on : {A : Type 0} (r : Result A Fault) (f : Fault) → IsErrAnd r (λ e. e ≡ f) → r ≡ Err f
-handed-on (Err e) f h = ap (λ (x : Fault). Err x) h
+-- What `?` hands on is the error that it met, whatever errors are.
+pub handed-on : {A E : Type 0} (r : Result A E) (f : E) → IsErrAnd r (λ e. e ≡ f) → r ≡ Err f
+handed-on {E} (Err e) f h = ap (λ (x : E). Err x) h
 handed-on (Ok u) f h = absurd h

@@ -5,4 +5,3 @@
 mod step;
 mod visitors;
 pub mod walk;
-mod word;

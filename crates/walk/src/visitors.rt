@@ -3,9 +3,9 @@
 ghost use Rattle.walk.specs.Visitors.{stepped, looked};
 
 use crate::step::step_bit;
-use crate::word::add_bit;
 use entry::entry::Entry;
 use rules::visit::Visitor;
+use steps::word::put_bit;
 use terms::kind::{looks_back, row_of};
 
 // An element that opens: its label, its parent's word and its previous sibling's; and of the entries seen,
@@ -38,7 +38,7 @@ impl Visitor for Stepping {
             self.sibling,
         );
         self.ahead = self.ahead | !back;
-        self.word = add_bit(self.word, n, on);
+        self.word = put_bit(self.word, n, on);
     }
 }
 

@@ -2,7 +2,8 @@
 use native.Mathlib.Omega.{arith}
 use mathlib.Core.Path.{sym, ◌∙◌}
 use Rattle.terms.specs.Answer.{number_of_fault}
-use Rattle.tag.proofs.RecordLaws.{length-closes, closing-there, record-wrong, record-closes, handed-on}
+use Rattle.terms.proofs.FaultLaws.{handed-on}
+use Rattle.tag.proofs.RecordLaws.{length-closes, closing-there, record-wrong, record-closes}
 use Rattle.tag.proofs.tag.take_closing.Goals as goal
 
 pub returns-then-other_length : goal.returns-then-other_length
@@ -14,7 +15,7 @@ returns-then-other_length c =
 pub returns-in_err-close_fault : goal.returns-in_err-close_fault
 returns-in_err-close_fault c =
     let (e, l) = record-closes _ _ _ _ c.requires.of_kind c.requires.at_in_bounds (sym c.number_at-other_length.ensures ∙ c.if-other_length.false) in
-    handed-on _ _ _ _ _ _ c.from_residual.ensures.1 (c.in_err-close_fault.ensures ∙ e, l)
+    rw (handed-on c.from_residual.result _ c.from_residual.ensures.1) (c.in_err-close_fault.ensures ∙ e, l)
 
 pub returns : goal.returns
 returns c = (
