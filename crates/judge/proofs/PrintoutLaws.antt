@@ -22,6 +22,7 @@ use Rattle.marking.specs.declared.report.Evaluation.{Evaluation}
 use Rattle.marking.specs.declared.report.Counted.{Counted}
 use Rattle.marking.specs.declared.report.Marking.{Marking}
 use Rattle.std.specs.Prelude.{Result, Ok, Err}
+use Rattle.std.specs.Result.{IsErrAnd}
 use Rattle.terms.specs.declared.refusal.Refusal.{Refusal}
 use Rattle.marking.proofs.AnswerLaws.{marked-evaluated, evaluated-small, outcome-sound, both-taken}
 use Rattle.marking.proofs.Means.{counted, word_is}
@@ -29,7 +30,7 @@ use Rattle.text.specs.Text.{line_of, element_lines, accepted_lines, accepted_tex
 use Rattle.text.specs.Rendered.{buffer_size, verdict_in, clamped, table_text, Rendered}
 use Rattle.text.proofs.Room.{text-short}
 use Rattle.judge.specs.Output.{room, printed, accepted_printout, text_answer, TakenPut, printout_of_both}
-use Rattle.terms.proofs.FaultLaws.{answered-only}
+use Rattle.terms.proofs.FaultLaws.{answered-only, handed-on as error-handed-on}
 use Rattle.terms.specs.Limits.{elements_most, report_most}
 use Rattle.rules.specs.Entries.{entries_of}
 use Rattle.reports.specs.Elements.{labels_of, levels_of}
@@ -258,6 +259,10 @@ module _ (rule report : List ℕ) where
   pub put-taken-only : {out after after' : List ℕ} {r r' : Result ℕ Refusal} → TakenPut rule report out r after → TakenPut rule report out r' after'
       → (r ≡ r') × (after ≡ after')
   put-taken-only p q = (answered-only _ _ (p.answer ∙ sym q.answer), p.bytes_are ∙ sym q.bytes_are)
+
+-- What is handed on by `?` is answered as it was.
+pub handed-on : (r : Result ℕ Refusal) (f : Refusal) → IsErrAnd r (λ e. e ≡ f) → answered r ≡ Refused (number_of_fault f.fault) f.place
+handed-on r f h = ap answered (error-handed-on r f h)
 
 -- ---- the bytes that are written
 

@@ -1,11 +1,10 @@
 -- `put_taken` puts the text of the marking's tables where the marking accepts, and nothing where it refuses. Assumes nothing.
 use Prim.Native.Nat.{ℕ}
-use mathlib.Core.Path.{refl, ap}
+use mathlib.Core.Path.{refl}
 use lib.ListN.{length-replicate}
 use Rattle.terms.specs.Limits.{elements_most}
-use Rattle.terms.specs.Answer.{answered}
-use Rattle.terms.proofs.FaultLaws.{fault-number-some, handed-on}
-use Rattle.judge.proofs.PrintoutLaws.{marked-told, accepted-with, accepted-rendered, put_refused, put-taken}
+use Rattle.terms.proofs.FaultLaws.{fault-number-some}
+use Rattle.judge.proofs.PrintoutLaws.{marked-told, accepted-with, accepted-rendered, put_refused, put-taken, handed-on}
 use borrow.Author.Rules.{rules}
 use Rattle.judge.proofs.judge.put_taken.Goals as goal
 
@@ -23,4 +22,4 @@ pub returns-in_err-counted : goal.returns-in_err-counted
 returns-in_err-counted c =
     let l = length-replicate {A = ℕ} elements_most 0 in
     let f = c.in_err-counted.field-0.0 in
-    put_refused _ _ (marked-told _ _ _ _ _ _ _ l l l l c.mark_report-marked.ensures _ c.in_err-counted.was) l _ (fault-number-some f.fault) (ap answered (handed-on _ f c.from_residual.ensures.1))
+    put_refused _ _ (marked-told _ _ _ _ _ _ _ l l l l c.mark_report-marked.ensures _ c.in_err-counted.was) l _ (fault-number-some f.fault) (handed-on _ f c.from_residual.ensures.1)

@@ -1,13 +1,11 @@
 -- `print` puts the whole text into a buffer of its own, and copies it where there is room. Assumes nothing.
 use Prim.Native.Nat.{ℕ}
-use Rattle.std.specs.Prelude.{Result}
 use mathlib.Core.Path.{ap}
 use mathlib.Core.List.{[]}
 use lib.ListN.{length-replicate}
-use Rattle.terms.specs.Answer.{number_of_fault, answered}
-use Rattle.terms.specs.declared.refusal.Refusal.{Refusal}
-use Rattle.terms.proofs.FaultLaws.{handed-on}
+use Rattle.terms.specs.Answer.{number_of_fault}
 use Rattle.text.specs.Rendered.{buffer_size}
+use Rattle.judge.proofs.PrintoutLaws.{handed-on}
 use Rattle.printing.specs.Given.{print_reply}
 use Rattle.printing.proofs.Given.{whole-fits, given-untaken, given-short, given-taken}
 use Rattle.printing.proofs.export.print.Goals as goal
@@ -15,7 +13,7 @@ use Rattle.printing.proofs.export.print.Goals as goal
 pub returns-in_err-written : goal.returns-in_err-written
 returns-in_err-written c =
     let f = c.in_err-written.field-0.0 in
-    given-untaken _ _ _ c.put_taken.ensures f c.in_err-written.was (ap (λ (r : Result ℕ Refusal). print_reply (answered r)) (handed-on _ f c.from_residual.ensures.1))
+    given-untaken _ _ _ c.put_taken.ensures f c.in_err-written.was (ap print_reply (handed-on _ f c.from_residual.ensures.1))
 
 pub returns-then-text-written : goal.returns-then-text-written
 unfolding number_of_fault
